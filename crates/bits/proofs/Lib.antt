@@ -1,0 +1,17 @@
+pub mod Digits
+pub mod Fields
+pub mod Results
+pub mod Slices
+pub mod Windows
+pub mod Bridge
+pub mod Reading
+pub mod Codes
+pub mod Unique
+pub mod Laid
+pub mod Puts
+pub mod Buffers
+pub mod Fills
+pub mod UeCodes
+pub mod SeCodes
+pub mod Writes
+pub mod Widths

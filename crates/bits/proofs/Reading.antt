@@ -1,0 +1,153 @@
+-- What each read finds in the bits of bytes, a law for each case, so that nobody need unfold `fixedAt` and `ueAt`. And that a code's value is at most 2 ^ 32 - 2.
+use mathlib.Core.Path.{_≡_, refl, sym, subst, _∙_}
+use mathlib.Core.List.{List, [], _∷_}
+use mathlib.Core.Bool.{Bool, true, false}
+use Prim.Native.Nat.{ℕ, zero, suc, _+_, _-_, _*_, _^_, _≤_, _<_}
+use native.Mathlib.Omega.{arith}
+use native.Mathlib.Decide.{decLt}
+use native.Mathlib.Nat.{zero-add, add-zero, add-suc, suc-add, suc-mul}
+use borrow.Author.Tests.{le-leb, lt-leb, leb-true}
+use lib.Dec.{leb}
+use lib.IntN.{pos}
+use lib.ListN.{length, take, drop}
+use lib.Pow.{pow-pos}
+use lib.Seq.{length-take-le}
+use Rattle.bits.specs.Refusals.{Res, got, no, pick, refusal, ranOut, tooManyZeros}
+use Rattle.bits.specs.Bits.{Bits, numberOf, bytesBits}
+use Rattle.bits.specs.Codes.{fixedAt, suffixAt, codeAt, ueAt}
+use Rattle.bits.specs.Windows.{bitAt, bitsAt, zerosAt}
+use Rattle.bits.proofs.Digits.{number-lt}
+use Rattle.bits.proofs.Windows.{bit-past, bits-first, zeros-stop, zeros-all, codeValue, value-lt}
+use Rattle.bits.proofs.Slices.{length-bytes}
+use Rattle.bits.proofs.Bridge.{left-cons, left-nil, left-length, field-bits}
+
+-- ---- u(n)
+
+module _ (s : List ℕ) (p n : ℕ) where
+  pub fixed-in : p + n ≤ 8 * length s → fixedAt n (bytesBits s) p ≡ got (bitsAt s p n) (p + n)
+  unfolding fixedAt
+  fixed-in h = rw (length-bytes, le-leb _ _ h, field-bits s p n h)
+
+  pub fixed-out : 8 * length s < p + n → fixedAt n (bytesBits s) p ≡ no (refusal ranOut (pos 0) p)
+  unfolding fixedAt
+  fixed-out h = rw (length-bytes, lt-leb _ _ h)
+
+-- ---- ue(v)
+
+module _ (s : List ℕ) where
+  -- a set bit is not past the end
+  inside : (i : ℕ) → bitAt s i ≡ 1 → i < 8 * length s
+  inside i e = go (decLt i (8 * length s))
+    where
+      go : Dec (i < 8 * length s) → i < 8 * length s
+      go (yes h) = h
+      go (Dec.no h) = let z : bitAt s i ≡ 0 = bit-past s i (omega arith) in absurd (omega arith)
+
+  -- no bit of a run of zeros is set
+  zero-first : (p k : ℕ) → bitsAt s p (suc k) ≡ 0 → (bitAt s p ≡ 0) × (bitsAt s (suc p) k ≡ 0)
+  zero-first p k e = go (bitAt s p) refl
+    where
+      go : (b : ℕ) → bitAt s p ≡ b → (bitAt s p ≡ 0) × (bitsAt s (suc p) k ≡ 0)
+      go zero g = (g, sym (bits-first s p k ∙ rw g (omega arith)) ∙ e)
+      go (suc b) g = absurd (omega (arith, rw (g, suc-mul) at (sym (bits-first s p k) ∙ e), pow-pos k))
+
+-- q is where the code starts, and p the place that has been reached
+module _ (s : List ℕ) (q : ℕ) where
+  -- k zeros and a set bit
+  code-run : (k n z p : ℕ) → bitsAt s p k ≡ 0 → bitAt s (p + k) ≡ 1 → k < n
+      → codeAt n z (drop p (bytesBits s)) q ≡ suffixAt (z + k) (drop (suc (p + k)) (bytesBits s)) q
+  unfolding codeAt
+  code-run k zero z p a b h = absurd (omega arith)
+  code-run zero (suc n) z p a b h =
+      let b1 : bitAt s p ≡ 1 = rw add-zero at b in
+      rw (left-cons s p (inside s p b1), b1, add-zero z, add-zero p)
+  code-run (suc k) (suc n) z p a b h =
+      let g = zero-first s p k a in
+      rw (left-cons s p (omega (arith, inside s (p + suc k) b)), g .0, add-suc z k, ← suc-add z k, add-suc p k, ← suc-add p k)
+      (code-run k n (suc z) (suc p) (g .1) (rw (suc-add, ← add-suc) b) (omega arith))
+
+  -- n zeros, which are too many
+  code-zeros : (n z p : ℕ) → bitsAt s p n ≡ 0 → p + n ≤ 8 * length s → codeAt n z (drop p (bytesBits s)) q ≡ no (refusal tooManyZeros (pos 0) q)
+  unfolding codeAt
+  code-zeros zero z p a h = refl
+  code-zeros (suc n) z p a h =
+      let g = zero-first s p n a in
+      rw (left-cons s p (omega arith), g .0) (code-zeros n (suc z) (suc p) (g .1) (omega arith))
+
+  -- zeros up to the end
+  code-end : (n z p : ℕ) → bitsAt s p n ≡ 0 → p ≤ 8 * length s → 8 * length s < p + n → codeAt n z (drop p (bytesBits s)) q ≡ no (refusal ranOut (pos 0) q)
+  unfolding codeAt
+  code-end zero z p a g h = absurd (omega arith)
+  code-end (suc n) z p a g h = go (decLt p (8 * length s)) (λ l. code-end n (suc z) (suc p) (zero-first s p n a .1) l (omega arith))
+    where
+      go : Dec (p < 8 * length s) → (suc p ≤ 8 * length s → codeAt n (suc z) (drop (suc p) (bytesBits s)) q ≡ no (refusal ranOut (pos 0) q))
+          → codeAt (suc n) z (drop p (bytesBits s)) q ≡ no (refusal ranOut (pos 0) q)
+      go (yes l) r = rw (left-cons s p l, zero-first s p n a .0) (r l)
+      go (Dec.no l) r = rw (left-nil s p (omega arith))
+
+  suffix-in : (z r : ℕ) → r + z ≤ 8 * length s → suffixAt z (drop r (bytesBits s)) q ≡ got (2 ^ z - 1 + bitsAt s r z) (q + (2 * z + 1))
+  unfolding suffixAt
+  suffix-in z r h =
+      let l : z ≤ length (drop r (bytesBits s)) = rw left-length (omega arith) in
+      rw (le-leb _ _ l, field-bits s r z h)
+
+  suffix-out : (z r : ℕ) → r ≤ 8 * length s → 8 * length s < r + z → suffixAt z (drop r (bytesBits s)) q ≡ no (refusal ranOut (pos 0) q)
+  unfolding suffixAt
+  suffix-out z r g h =
+      let l : length (drop r (bytesBits s)) < z = rw left-length (omega arith) in
+      rw (lt-leb _ _ l)
+
+pub ue-past : (s : List ℕ) (p : ℕ) → 8 * length s < p → ueAt (bytesBits s) p ≡ no (refusal ranOut (pos 0) p)
+unfolding ueAt codeAt
+ue-past s p h = rw (left-nil s p (omega arith))
+
+module _ (s : List ℕ) (p z : ℕ) (e : zerosAt s p 32 ≡ z) where
+  -- the zeros and the set bit after them
+  counted : z < 32 → (bitsAt s p z ≡ 0) × (bitAt s (p + z) ≡ 1)
+  counted h = rw e at (zeros-stop s p 32 (rw e h))
+
+  -- what follows them
+  ue-suffix : z < 32 → ueAt (bytesBits s) p ≡ suffixAt z (drop (p + (z + 1)) (bytesBits s)) p
+  unfolding ueAt
+  ue-suffix h =
+      let r : suc (p + z) ≡ p + (z + 1) = omega arith in
+      rw (zero-add z, r) at (code-run s p z 32 0 p (counted h .0) (counted h .1) h)
+
+  pub ue-in : z < 32 → p + (2 * z + 1) ≤ 8 * length s → ueAt (bytesBits s) p ≡ got (codeValue s p z) (p + (2 * z + 1))
+  ue-in h g = ue-suffix h ∙ suffix-in s p z (p + (z + 1)) (omega arith)
+
+  pub ue-short : z < 32 → 8 * length s < p + (2 * z + 1) → ueAt (bytesBits s) p ≡ no (refusal ranOut (pos 0) p)
+  ue-short h g = ue-suffix h ∙ suffix-out s p z (p + (z + 1)) (omega (arith, inside s (p + z) (counted h .1))) (omega arith)
+
+  pub ue-zeros : 32 ≤ z → p + 32 ≤ 8 * length s → ueAt (bytesBits s) p ≡ no (refusal tooManyZeros (pos 0) p)
+  unfolding ueAt
+  ue-zeros h g = code-zeros s p 32 0 p (zeros-all s p 32 (rw e h)) g
+
+  pub ue-end : 32 ≤ z → p ≤ 8 * length s → 8 * length s < p + 32 → ueAt (bytesBits s) p ≡ no (refusal ranOut (pos 0) p)
+  unfolding ueAt
+  ue-end h k g = code-end s p 32 0 p (zeros-all s p 32 (rw e h)) k g
+
+-- ---- how large a value is, whatever the bits
+
+abbrev Small : Res ℕ → Type 0
+Small (got k e) = k < 2 ^ 32 - 1
+Small (no r) = Unit {0}
+
+suffix-small : (z : ℕ) (l : Bits) (p : ℕ) → z < 32 → Small (suffixAt z l p)
+unfolding suffixAt
+suffix-small z l p h = go (leb z (length l)) refl
+  where
+    go : (b : Bool) → leb z (length l) ≡ b → Small (pick b (got (2 ^ z - 1 + numberOf (take z l)) (p + (2 * z + 1))) (no (refusal ranOut (pos 0) p)))
+    go false g = tt
+    go true g = value-lt z _ h (rw (length-take-le z l (leb-true _ _ g)) at (number-lt (take z l)))
+
+code-small : (n z : ℕ) (l : Bits) (p : ℕ) → n + z ≤ 32 → Small (codeAt n z l p)
+unfolding codeAt
+code-small zero z l p h = tt
+code-small (suc n) z [] p h = tt
+code-small (suc n) z (false ∷ l) p h = code-small n (suc z) l p (omega arith)
+code-small (suc n) z (true ∷ l) p h = suffix-small z l p (omega arith)
+
+pub ue-lt : (l : Bits) (p k e : ℕ) → ueAt l p ≡ got k e → k < 2 ^ 32 - 1
+unfolding ueAt
+ue-lt l p k e g = subst Small g (code-small 32 0 (drop p l) p (omega arith))

@@ -1,0 +1,94 @@
+use native.Mathlib.Omega.{arith}
+use mathlib.Core.Path.{refl}
+use mathlib.Core.List.{List}
+use Prim.Native.Nat.{ℕ, _*_}
+use Rattle.bits.proofs.Windows.{or-first, or-next, or-last}
+use borrow.Author.Needs.{needs}
+use Rattle.bits.proofs.window.eight.Statement.{statement}
+use Rattle.bits.proofs.window.eight.Tie as tie
+
+one-requires : tie.Need-one-requires
+one-requires c κs = search needs
+
+add-one : tie.Need-add-one
+add-one c = search needs
+
+one-requires-2 : tie.Need-one-requires-2
+one-requires-2 c κs = search needs
+
+add-one-2 : tie.Need-add-one-2
+add-one-2 c = search needs
+
+one-requires-3 : tie.Need-one-requires-3
+one-requires-3 c κs = search needs
+
+add-one-3 : tie.Need-add-one-3
+add-one-3 c = search needs
+
+one-requires-4 : tie.Need-one-requires-4
+one-requires-4 c κs = search needs
+
+add-one-4 : tie.Need-add-one-4
+add-one-4 c = search needs
+
+one-requires-5 : tie.Need-one-requires-5
+one-requires-5 c κs = search needs
+
+add-one-5 : tie.Need-add-one-5
+add-one-5 c = search needs
+
+one-requires-6 : tie.Need-one-requires-6
+one-requires-6 c κs = search needs
+
+add-one-6 : tie.Need-add-one-6
+add-one-6 c = search needs
+
+one-requires-7 : tie.Need-one-requires-7
+one-requires-7 c κs = search needs
+
+add-one-7 : tie.Need-add-one-7
+add-one-7 c = search needs
+
+one-requires-8 : tie.Need-one-requires-8
+one-requires-8 c κs = search needs
+
+returns : tie.Need-returns
+returns c =
+    let c1 = c .before .before .before .before .before .before .before in
+    let c2 = c .before .before .before .before .before .before in
+    let c3 = c .before .before .before .before .before in
+    let c4 = c .before .before .before .before in
+    let c5 = c .before .before .before in
+    let c6 = c .before .before in
+    let c7 = c .before in
+    let p : ℕ = 8 * c1 .before .before .args .i in
+    let s : List ℕ = c1 .before .before .args .s .now in
+    let a1 = or-first s p 8 56 (c1 .one .result) refl (c1 .one .ensures) in
+    let a2 = or-next s p _ 8 8 48 56 _ _ refl refl (omega arith) a1 (c2 .one2 .ensures) in
+    let a3 = or-next s p _ 16 8 40 48 _ _ refl refl (omega arith) a2 (c3 .one3 .ensures) in
+    let a4 = or-next s p _ 24 8 32 40 _ _ refl refl (omega arith) a3 (c4 .one4 .ensures) in
+    let a5 = or-next s p _ 32 8 24 32 _ _ refl refl (omega arith) a4 (c5 .one5 .ensures) in
+    let a6 = or-next s p _ 40 8 16 24 _ _ refl refl (omega arith) a5 (c6 .one6 .ensures) in
+    let a7 = or-next s p _ 48 8 8 16 _ _ refl refl (omega arith) a6 (c7 .one7 .ensures) in
+    or-last s p _ 56 8 _ _ (omega arith) a7 (c .one8 .ensures)
+
+pub eight-spec : {M : Type 1} → statement M
+eight-spec =
+    tie.close
+    (tie.spec
+    one-requires
+    add-one
+    one-requires-2
+    add-one-2
+    one-requires-3
+    add-one-3
+    one-requires-4
+    add-one-4
+    one-requires-5
+    add-one-5
+    one-requires-6
+    add-one-6
+    one-requires-7
+    add-one-7
+    one-requires-8
+    returns)

@@ -1,0 +1,7 @@
+pub mod Refusals
+pub mod Bits
+pub mod Codes
+pub mod Answers
+pub mod Put
+pub mod Width
+pub mod Windows

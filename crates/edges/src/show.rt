@@ -1,0 +1,106 @@
+// Answers as text.
+use bits::put::Wrote;
+use bits::read::Read;
+use bits::read::ReadFlag;
+use bits::read::ReadSigned;
+use bits::refusals::Refusal;
+use libc::STDOUT_FILENO;
+
+pub(crate) fn text(t: &[u8]) {
+    io::write_all(STDOUT_FILENO, t);
+}
+
+pub(crate) fn number(n: u64) {
+    io::print_decimal(STDOUT_FILENO, n);
+}
+
+pub(crate) fn signed(n: i64) {
+    if n < 0 {
+        text(b"-");
+        number((-(n + 1)) as u64 + 1);
+    } else {
+        number(n as u64);
+    }
+}
+
+pub(crate) fn bytes(d: &[u8]) {
+    let mut i = 0;
+    while i < d.len() {
+        byte(d[i]);
+        i += 1;
+    }
+}
+
+fn byte(b: u8) {
+    text(b" ");
+    io::print_hex(STDOUT_FILENO, b as u64, 2);
+}
+
+pub(crate) fn refusal(r: Refusal) {
+    text(b"refused ");
+    number(r.number as u64);
+    text(b" value=");
+    signed(r.value);
+}
+
+pub(crate) fn read(name: &[u8], a: Read) {
+    text(name);
+    text(b": ");
+    match a {
+        Read::Got(v, c) => {
+            number(v as u64);
+            text(b" next=");
+            number(c.at as u64);
+        }
+        Read::Refused(r) => refusal(r),
+    }
+    text(b"\n");
+}
+
+pub(crate) fn read_signed(name: &[u8], a: ReadSigned) {
+    text(name);
+    text(b": ");
+    match a {
+        ReadSigned::Got(v, c) => {
+            signed(v as i64);
+            text(b" next=");
+            number(c.at as u64);
+        }
+        ReadSigned::Refused(r) => refusal(r),
+    }
+    text(b"\n");
+}
+
+pub(crate) fn read_flag(name: &[u8], a: ReadFlag) {
+    text(name);
+    text(b": ");
+    match a {
+        ReadFlag::Got(v, c) => {
+            if v {
+                text(b"set");
+            } else {
+                text(b"clear");
+            }
+            text(b" next=");
+            number(c.at as u64);
+        }
+        ReadFlag::Refused(r) => refusal(r),
+    }
+    text(b"\n");
+}
+
+// A write's answer, and the buffer after it.
+pub(crate) fn wrote(name: &[u8], a: Wrote, d: &[u8]) {
+    text(name);
+    text(b": ");
+    match a {
+        Wrote::At(c) => {
+            text(b"next=");
+            number(c.at as u64);
+        }
+        Wrote::Refused(r) => refusal(r),
+    }
+    text(b" buffer");
+    bytes(d);
+    text(b"\n");
+}

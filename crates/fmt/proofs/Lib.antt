@@ -1,0 +1,12 @@
+pub mod Lawful
+pub mod Combinators
+pub mod Lists
+pub mod Leaves
+pub mod Any
+pub mod Turns
+pub mod Loops
+pub mod Along
+pub mod Arrays
+pub mod Sizes
+pub mod Puts
+pub mod PutLoops

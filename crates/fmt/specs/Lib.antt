@@ -1,0 +1,4 @@
+pub mod Fmt
+pub mod Leaves
+pub mod Arrays
+pub mod Put

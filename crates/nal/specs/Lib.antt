@@ -1,0 +1,4 @@
+pub mod UnitType
+pub mod Header
+pub mod Extension
+pub mod Body

@@ -1,0 +1,48 @@
+-- Document 01's marked examples, in one table: each input, and the answer that its definition must give.
+use mathlib.Core.Path.{_≡_}
+use mathlib.Core.List.{List, [], _∷_}
+use Prim.Native.Nat.{ℕ}
+use lib.IntN.{ℤ, negsuc}
+use Rattle.bits.specs.Refusals.{Res, got}
+use Rattle.bits.specs.Bits.{bitsOf}
+use Rattle.bits.specs.Codes.{ueAt, seAt}
+use Rattle.bits.specs.Width.{changeCycleWidth}
+use Rattle.nal.specs.Body.{body}
+
+pub data Example : Type 0 where
+  -- bytes whose first code is read, and what reading gives
+  ue : List ℕ → Res ℕ → Example
+  se : List ℕ → Res ℤ → Example
+  -- the rest of a unit, and its unescaped body
+  unescaped : List ℕ → List ℕ → Example
+  -- size, rate, and the change cycle's width
+  width : ℕ → ℕ → ℕ → Example
+
+abbrev pub Holds : Example → Type 0
+Holds (ue s r) = ueAt (bitsOf s) 0 ≡ r
+Holds (se s r) = seAt (bitsOf s) 0 ≡ r
+Holds (unescaped s b) = body 0 s ≡ b
+Holds (width size rate b) = changeCycleWidth size rate ≡ b
+
+abbrev pub All : List Example → Type 0
+All [] = Unit {0}
+All (e ∷ es) = Holds e × All es
+
+abbrev pub marked : List Example
+marked =
+    -- P1 bits 1
+    ue (0b1000_0000 ∷ []) (got 0 1)
+    -- P2 bits 00100
+    ∷ ue (0b0010_0000 ∷ []) (got 3 5)
+    -- P3 31 zeros, 32 ones
+    ∷ ue (0 ∷ 0 ∷ 0 ∷ 1 ∷ 0xff ∷ 0xff ∷ 0xff ∷ 0xfe ∷ []) (got 4294967294 63)
+    -- P4 code 2
+    ∷ se (0b0110_0000 ∷ []) (got (negsuc 0) 3)
+    -- P5
+    ∷ unescaped (0 ∷ 0 ∷ 3 ∷ 0 ∷ 0 ∷ 3 ∷ 1 ∷ []) (0 ∷ 0 ∷ 0 ∷ 0 ∷ 1 ∷ [])
+    -- P9, P10, P11
+    ∷ width 99 11 4
+    ∷ width 7 1 3
+    ∷ width 8 1 4
+    ∷ width 1 5 1
+    ∷ []

@@ -1,0 +1,3 @@
+pub mod Walking
+pub mod Held
+pub mod Through
