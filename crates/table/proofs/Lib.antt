@@ -1,0 +1,14 @@
+pub mod Tests
+pub mod Signs
+pub mod Looking
+pub mod Storing
+pub mod Ranges
+pub mod Arrays
+pub mod Entries
+pub mod Walking
+pub mod Fields
+pub mod Values
+pub mod LookShell
+pub mod PutShell
+pub mod WithShell
+pub mod ReadShell

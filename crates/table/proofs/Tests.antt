@@ -1,0 +1,67 @@
+-- Tests as the code makes them, one at a time, and as the definitions write them, all at once.
+use mathlib.Core.Path.{_≡_, refl, sym, _∙_}
+use mathlib.Core.Bool.{Bool, true, false, not, _&&_, and-true, true≢false}
+use mathlib.Core.List.{List, [], _∷_}
+use Prim.Native.Nat.{ℕ, zero, suc}
+use borrow.Author.Tests.{not-true, not-false, ltb-true, ltb-false, le-leb, lt-leb}
+use lib.Dec.{ltb, leb}
+use lib.IntN.{ℤ, pos, negsuc}
+use lib.ListN.{getD}
+use lib.Signed.{ltZ, leZ}
+use Rattle.table.specs.Sets.{all}
+
+-- ---- a list of tests
+
+pub both : (a b : Bool) → a && b ≡ true → (a ≡ true) × (b ≡ true)
+both true b h = (refl, h)
+both false b h = absurd (true≢false (sym h))
+
+-- the test at place k fails
+pub one-fails : (l : List Bool) (k : ℕ) → getD l k true ≡ false → all l ≡ false
+unfolding all
+one-fails [] k h = h
+one-fails (b ∷ l) zero h = rw h
+one-fails (true ∷ l) (suc k) h = one-fails l k h
+one-fails (false ∷ l) (suc k) h = refl
+
+-- the first test holds
+pub next : {b : Bool} (l : List Bool) → b ≡ true → all (b ∷ l) ≡ all l
+unfolding all
+next l h = rw h
+
+pub last : (b : Bool) → all (b ∷ []) ≡ b
+unfolding all
+last b = and-true b
+
+abbrev pub Each : List Bool → Type 0
+Each [] = Unit {0}
+Each (b ∷ l) = (b ≡ true) × Each l
+
+pub each : (l : List Bool) → all l ≡ true → Each l
+unfolding all
+each [] h = tt
+each (true ∷ l) h = (refl, each l h)
+each (false ∷ l) h = absurd (true≢false (sym h))
+
+-- ---- a test by a call: what r answers is the test b
+
+pub refuted : {b r : Bool} → r ≡ b → not r ≡ true → b ≡ false
+refuted e h = sym e ∙ not-true _ h
+
+pub held : {b r : Bool} → r ≡ b → not r ≡ false → b ≡ true
+held e h = sym e ∙ not-false _ h
+
+-- ---- the two orders
+
+not-lt : (a b : ℕ) → leb b a ≡ not (ltb a b)
+not-lt a b = by (ltb a b) refl
+  where
+    by : (t : Bool) → ltb a b ≡ t → leb b a ≡ not t
+    by true h = lt-leb _ _ (ltb-true a b h)
+    by false h = le-leb _ _ (ltb-false a b h)
+
+pub not-less : (a b : ℤ) → leZ b a ≡ not (ltZ a b)
+not-less (pos a) (pos b) = not-lt a b
+not-less (pos a) (negsuc b) = refl
+not-less (negsuc a) (pos b) = refl
+not-less (negsuc a) (negsuc b) = not-lt b a

@@ -1,0 +1,160 @@
+-- The parameter table: what an entry holds, looking up, and putting (document 01, 'Sizes').
+use Prim.Native.Nat.{ℕ, _*_}
+use mathlib.Core.List.{List, [], _∷_}
+use mathlib.Core.Bool.{Bool, _&&_}
+use lib.Dec.{leb, eqb}
+use lib.IntN.{pos, natAbs, _+ℤ_, _-ℤ_}
+use lib.ListN.{getD, drop, replicate}
+use lib.Seq.{sets}
+use Rattle.bits.specs.Refusals.{pick, refusal}
+use Rattle.table.specs.declared.sets.Sequence.{Sequence}
+use Rattle.table.specs.declared.sets.Picture.{Picture}
+use Rattle.table.specs.declared.words.FoundSequence.{FoundSequence}
+use Rattle.table.specs.declared.words.FoundPicture.{FoundPicture}
+use Rattle.table.specs.declared.words.Changed.{Changed}
+use Rattle.table.specs.declared.table.Table.{Table}
+use Rattle.table.specs.declared.table.WithTable.{WithTable}
+use Rattle.table.specs.Sets.{all, sequenceFits, pictureFits}
+
+-- refusal 24: a table field out of range
+abbrev pub tableField : ℕ
+tableField = 24
+
+-- ---- an entry's words: a mark, and the set's fields in order; a flag is 0 or 1, a signed field stands above its least value
+
+abbrev pub wordOf : Bool → ℕ
+wordOf b = pick b 1 0
+
+abbrev pub isFlag : ℕ → Bool
+isFlag w = leb w 1
+
+unfoldable pub sequenceWords : Sequence → List ℕ
+sequenceWords s =
+    1
+    ∷ s .«chroma_format_idc»
+    ∷ wordOf (s .«separate_colour_plane_flag»)
+    ∷ s .«bit_depth_luma_minus8»
+    ∷ s .«log2_max_frame_num»
+    ∷ s .«pic_order_cnt_type»
+    ∷ s .«log2_max_pic_order_cnt_lsb_minus4»
+    ∷ wordOf (s .«delta_pic_order_always_zero_flag»)
+    ∷ wordOf (s .«frame_mbs_only_flag»)
+    ∷ s .«pic_size_in_map_units»
+    ∷ []
+
+unfoldable pub sequenceOf : List ℕ → Sequence
+sequenceOf w =
+    record {
+      «chroma_format_idc» = getD w 1 0;
+      «separate_colour_plane_flag» = eqb (getD w 2 0) 1;
+      «bit_depth_luma_minus8» = getD w 3 0;
+      «log2_max_frame_num» = getD w 4 0;
+      «pic_order_cnt_type» = getD w 5 0;
+      «log2_max_pic_order_cnt_lsb_minus4» = getD w 6 0;
+      «delta_pic_order_always_zero_flag» = eqb (getD w 7 0) 1;
+      «frame_mbs_only_flag» = eqb (getD w 8 0) 1;
+      «pic_size_in_map_units» = getD w 9 0;
+    }
+
+unfoldable pub pictureWords : Picture → List ℕ
+pictureWords p =
+    1
+    ∷ p .«seq_parameter_set_id»
+    ∷ wordOf (p .«entropy_coding_mode_flag»)
+    ∷ wordOf (p .«bottom_field_pic_order_in_frame_present_flag»)
+    ∷ p .«num_ref_idx_l0_default_active_minus1»
+    ∷ p .«num_ref_idx_l1_default_active_minus1»
+    ∷ wordOf (p .«weighted_pred_flag»)
+    ∷ p .«weighted_bipred_idc»
+    ∷ natAbs (p .«pic_init_qp_minus26» +ℤ pos 62)
+    ∷ natAbs (p .«pic_init_qs_minus26» +ℤ pos 26)
+    ∷ wordOf (p .«deblocking_filter_control_present_flag»)
+    ∷ wordOf (p .«redundant_pic_cnt_present_flag»)
+    ∷ p .«slice_group_change_rate»
+    ∷ []
+
+unfoldable pub pictureOf : List ℕ → Picture
+pictureOf w =
+    record {
+      «seq_parameter_set_id» = getD w 1 0;
+      «entropy_coding_mode_flag» = eqb (getD w 2 0) 1;
+      «bottom_field_pic_order_in_frame_present_flag» = eqb (getD w 3 0) 1;
+      «num_ref_idx_l0_default_active_minus1» = getD w 4 0;
+      «num_ref_idx_l1_default_active_minus1» = getD w 5 0;
+      «weighted_pred_flag» = eqb (getD w 6 0) 1;
+      «weighted_bipred_idc» = getD w 7 0;
+      «pic_init_qp_minus26» = pos (getD w 8 0) -ℤ pos 62;
+      «pic_init_qs_minus26» = pos (getD w 9 0) -ℤ pos 26;
+      «deblocking_filter_control_present_flag» = eqb (getD w 10 0) 1;
+      «redundant_pic_cnt_present_flag» = eqb (getD w 11 0) 1;
+      «slice_group_change_rate» = getD w 12 0;
+    }
+
+-- ---- looking up: an entry holds a set where its mark is 1, its flags are flags, and the set is within the ranges; any other counts as not there
+
+abbrev pub sequenceTests : List ℕ → List Bool
+sequenceTests w =
+    eqb (getD w 0 0) 1
+    ∷ isFlag (getD w 2 0)
+    ∷ isFlag (getD w 7 0)
+    ∷ isFlag (getD w 8 0)
+    ∷ sequenceFits (sequenceOf w)
+    ∷ []
+
+unfoldable pub sequenceEntry : List ℕ → FoundSequence
+sequenceEntry w = pick (all (sequenceTests w)) (FoundSequence.There (sequenceOf w)) FoundSequence.Absent
+
+abbrev pub pictureTests : List ℕ → List Bool
+pictureTests w =
+    eqb (getD w 0 0) 1
+    ∷ isFlag (getD w 2 0)
+    ∷ isFlag (getD w 3 0)
+    ∷ isFlag (getD w 6 0)
+    ∷ isFlag (getD w 10 0)
+    ∷ isFlag (getD w 11 0)
+    ∷ pictureFits (pictureOf w)
+    ∷ []
+
+unfoldable pub pictureEntry : List ℕ → FoundPicture
+pictureEntry w = pick (all (pictureTests w)) (FoundPicture.There (pictureOf w)) FoundPicture.Absent
+
+unfoldable pub sequenceIn : List ℕ → ℕ → FoundSequence
+sequenceIn t id = pick (leb id 31) (sequenceEntry (drop (id * 10) t)) FoundSequence.Absent
+
+unfoldable pub pictureIn : List ℕ → ℕ → FoundPicture
+pictureIn t id = pick (leb id 255) (pictureEntry (drop (id * 13) t)) FoundPicture.Absent
+
+abbrev pub sequenceAt : Table → ℕ → FoundSequence
+sequenceAt t id = sequenceIn (t .sequences) id
+
+abbrev pub pictureAt : Table → ℕ → FoundPicture
+pictureAt t id = pictureIn (t .pictures) id
+
+-- ---- putting: the answer, and the array or table at exit
+
+pub record Put : Type 0 where
+  pub answer : Changed
+  pub left : List ℕ
+
+-- the words in place of the entry's, where all is in range; else 24 and no change
+abbrev pub putWords : Bool → List ℕ → ℕ → List ℕ → Put
+putWords good t at w =
+    pick good (record { answer = Changed.Done; left = sets t at w }) (record { answer = Changed.Refused (refusal tableField (pos 0) 0); left = t })
+
+unfoldable pub sequencePut : List ℕ → ℕ → Sequence → Put
+sequencePut t id s = putWords (leb id 31 && sequenceFits s) t (id * 10) (sequenceWords s)
+
+unfoldable pub picturePut : List ℕ → ℕ → Picture → Put
+picturePut t id p = putWords (leb id 255 && pictureFits p) t (id * 13) (pictureWords p)
+
+abbrev pub putSequence : Table → ℕ → Sequence → WithTable
+putSequence t id s =
+    record { answer = sequencePut (t .sequences) id s .answer; table = record { sequences = sequencePut (t .sequences) id s .left; pictures = t .pictures } }
+
+abbrev pub putPicture : Table → ℕ → Picture → WithTable
+putPicture t id p =
+    record { answer = picturePut (t .pictures) id p .answer; table = record { sequences = t .sequences; pictures = picturePut (t .pictures) id p .left } }
+
+-- the table starts empty
+abbrev pub emptyTable : Table
+emptyTable = record { sequences = replicate 320 0; pictures = replicate 3328 0 }
