@@ -5,10 +5,8 @@ edges.py           compares with crates/edges/stdout, and exits non-zero where t
 edges.py --write   writes that file
 The cases are those of crates/edges/src, in its order.
 """
-import pathlib
-import sys
+from model import hold
 
-STDOUT = pathlib.Path(__file__).resolve().parent.parent / "crates/edges/stdout"
 LAST = 2**64 - 1
 lines = []
 
@@ -254,23 +252,8 @@ def body(name, unit, start):
     lines.append(f"{name}: {said} scratch {scratch.hex(' ')}")
 
 
-def main():
-    reads()
-    puts()
-    widths()
-    units()
-    want = "\n".join(lines) + "\n"
-    if "--write" in sys.argv:
-        STDOUT.write_text(want)
-        return
-    got = STDOUT.read_text()
-    if got != want:
-        for i, (a, b) in enumerate(zip(got.splitlines(), want.splitlines()), 1):
-            if a != b:
-                print(f"edges: line {i} of crates/edges/stdout: {a!r}; the model says {b!r}")
-        print("edges: crates/edges/stdout is not what the model in tests/edges.py works out")
-        sys.exit(1)
-    print(f"edges: {len(lines)} expected lines, as the model in tests/edges.py works them out")
-
-
-main()
+reads()
+puts()
+widths()
+units()
+hold("edges", lines)
