@@ -1,8 +1,10 @@
-//! Codes ue(v) read through the static library, against two plain Rust readers, on the same bytes in one run.
+//! Codes ue(v) read through the static library, against two plain Rust readers, on the same bytes in one run; then look-ups in the parameter table.
 //! Best of several rounds, in nanoseconds a code; the ratio to the Rust that reads by windows comes first.
 
 use std::hint::black_box;
 use std::time::Instant;
+
+mod sets;
 
 extern "C" {
     /// crates/exports: up to n codes from place 0 on, as count * 2^32 + sum.
@@ -46,7 +48,11 @@ fn by_windows(bytes: &[u8], at: usize) -> Code {
     if zeros == 32 || end - at < size {
         return None;
     }
-    let value = if zeros < 29 { (w >> (63 - 2 * zeros)) - 1 } else { (window(bytes, at + zeros) >> (63 - zeros)) - 1 };
+    let value = if zeros < 29 {
+        (w >> (63 - 2 * zeros)) - 1
+    } else {
+        (window(bytes, at + zeros) >> (63 - zeros)) - 1
+    };
     Some((value as u32, at + size))
 }
 
@@ -72,7 +78,9 @@ fn by_bits(bytes: &[u8], at: usize) -> Code {
 fn run(bytes: &[u8], n: u32, code: impl Fn(&[u8], usize) -> Code) -> u64 {
     let (mut at, mut sum, mut count) = (0, 0u32, 0u32);
     while count < n {
-        let Some((value, next)) = code(bytes, at) else { break };
+        let Some((value, next)) = code(bytes, at) else {
+            break;
+        };
         sum = sum.wrapping_add(value);
         at = next;
         count += 1;
@@ -152,7 +160,11 @@ fn main() {
     println!("agree on {} bodies", agree(&mut random));
     let n = 200_000;
     let mut worst = 0f64;
-    for (name, top) in [("values 0 to 7", 8), ("values 0 to 63", 64), ("values to 2^31", 1 << 31)] {
+    for (name, top) in [
+        ("values 0 to 7", 8),
+        ("values 0 to 63", 64),
+        ("values to 2^31", 1 << 31),
+    ] {
         let bytes = codes(&mut random, n, top);
         let want = run(&bytes, n, by_bits);
         let ours = best(n, want, || library(black_box(&bytes), n));
@@ -162,7 +174,9 @@ fn main() {
         println!("{name:15} {:.2} of Rust by windows: library {ours:.2} ns a code, Rust by windows {windows:.2}, Rust by bits {bits:.2}", ours / windows);
     }
     println!("worst ratio {worst:.2}, the bar is 1.30");
-    if worst > 1.3 {
+    let lookup = sets::lookup();
+    println!("a look-up of a picture set: {lookup:.2} ns, the bar is 10");
+    if worst > 1.3 || lookup > 10.0 {
         std::process::exit(1);
     }
 }

@@ -1,0 +1,128 @@
+//! Look-ups of picture sets through the exported function, on a table that is lent.
+
+use std::hint::black_box;
+use std::mem::MaybeUninit;
+use std::time::Instant;
+
+/// crates/table, `Picture`.
+#[repr(C)]
+#[derive(Clone, Copy, Default, PartialEq, Debug)]
+struct Picture {
+    seq_parameter_set_id: u32,
+    entropy_coding_mode_flag: bool,
+    bottom_field_pic_order_in_frame_present_flag: bool,
+    num_ref_idx_l0_default_active_minus1: u32,
+    num_ref_idx_l1_default_active_minus1: u32,
+    weighted_pred_flag: bool,
+    weighted_bipred_idc: u32,
+    pic_init_qp_minus26: i32,
+    pic_init_qs_minus26: i32,
+    deblocking_filter_control_present_flag: bool,
+    redundant_pic_cnt_present_flag: bool,
+    slice_group_change_rate: u32,
+}
+
+/// crates/table, `Table`.
+#[repr(C)]
+#[derive(Clone, Copy)]
+struct Table {
+    sequences: [u32; 320],
+    pictures: [u32; 3328],
+}
+
+/// crates/exports, `PictureOut`.
+#[repr(C)]
+struct PictureOut {
+    there: bool,
+    picture: Picture,
+}
+
+extern "C" {
+    /// A struct result goes through a pointer that stands first, on x86-64 by the C convention; written out, the call is the same on other machines (native-archive).
+    fn tuz_picture_at(out: *mut PictureOut, table: &Table, id: u32);
+}
+
+fn picture_at<'a>(table: &Table, id: u32, out: &'a mut MaybeUninit<PictureOut>) -> &'a PictureOut {
+    // SAFETY: the function fills all of `out`; the table lives through the call, which only reads it.
+    unsafe {
+        tuz_picture_at(out.as_mut_ptr(), table, id);
+        out.assume_init_ref()
+    }
+}
+
+impl Picture {
+    /// The words of an entry, as crates/table/specs/Tables.antt, `pictureWords`, has them.
+    fn words(&self) -> [u32; 13] {
+        [
+            1,
+            self.seq_parameter_set_id,
+            self.entropy_coding_mode_flag.into(),
+            self.bottom_field_pic_order_in_frame_present_flag.into(),
+            self.num_ref_idx_l0_default_active_minus1,
+            self.num_ref_idx_l1_default_active_minus1,
+            self.weighted_pred_flag.into(),
+            self.weighted_bipred_idc,
+            (self.pic_init_qp_minus26 + 62) as u32,
+            (self.pic_init_qs_minus26 + 26) as u32,
+            self.deblocking_filter_control_present_flag.into(),
+            self.redundant_pic_cnt_present_flag.into(),
+            self.slice_group_change_rate,
+        ]
+    }
+}
+
+/// The set that is put at an id: every field another.
+fn picture(id: u32) -> Picture {
+    Picture {
+        seq_parameter_set_id: id % 32,
+        entropy_coding_mode_flag: id % 2 == 1,
+        bottom_field_pic_order_in_frame_present_flag: id % 3 == 1,
+        num_ref_idx_l0_default_active_minus1: id % 31,
+        num_ref_idx_l1_default_active_minus1: id % 29,
+        weighted_pred_flag: id % 5 == 1,
+        weighted_bipred_idc: id % 3,
+        pic_init_qp_minus26: (id % 88) as i32 - 62,
+        pic_init_qs_minus26: (id % 52) as i32 - 26,
+        deblocking_filter_control_present_flag: id % 7 == 1,
+        redundant_pic_cnt_present_flag: id % 11 == 1,
+        slice_group_change_rate: id * 65_536,
+    }
+}
+
+/// Fills a table, holds each look-up to what was put, and gives the nanoseconds that a look-up takes, best of several rounds.
+pub fn lookup() -> f64 {
+    let mut table = Table {
+        sequences: [0; 320],
+        pictures: [0; 3328],
+    };
+    for id in 0..256 {
+        let at = id as usize * 13;
+        table.pictures[at..at + 13].copy_from_slice(&picture(id).words());
+    }
+    let mut out = MaybeUninit::uninit();
+    for id in 0..260 {
+        let found = picture_at(&table, id, &mut out);
+        assert_eq!(found.there, id < 256);
+        assert_eq!(
+            found.picture,
+            if id < 256 {
+                picture(id)
+            } else {
+                Picture::default()
+            }
+        );
+    }
+    let rounds = 4_000_000u32;
+    let mut best = f64::MAX;
+    for _ in 0..7 {
+        let start = Instant::now();
+        let mut sum = 0u32;
+        for i in 0..rounds {
+            let found = picture_at(black_box(&table), i % 256, &mut out);
+            sum = sum.wrapping_add(found.picture.slice_group_change_rate);
+        }
+        black_box(sum);
+        best = best.min(start.elapsed().as_nanos() as f64 / f64::from(rounds));
+    }
+    best
+}
