@@ -1,0 +1,3 @@
+pub mod AnySet
+pub mod Sets
+pub mod Unique

@@ -1,0 +1,56 @@
+use mathlib.Core.Bool.{and-true, and-false, or-false}
+use Rattle.header.specs.Kinds.{kindOf}
+use borrow.Author.Needs.{needs}
+use Rattle.header.proofs.kinds.kind_of.Statement.{statement}
+use Rattle.header.proofs.kinds.kind_of.Tie as tie
+
+nal-ref-idc-requires : tie.Need-nal-ref-idc-requires
+nal-ref-idc-requires c κs = search needs
+
+nal-unit-type-requires : tie.Need-nal-unit-type-requires
+nal-unit-type-requires c κs = search needs
+
+id-requires : tie.Need-id-requires
+id-requires c κs = search needs
+
+either-requires : tie.Need-either-requires
+either-requires c κs = search needs
+
+enum-known-e : tie.Need-enum-known-e
+enum-known-e c = search needs
+
+non-idr-flag-requires : tie.Need-non-idr-flag-requires
+non-idr-flag-requires c κs = search needs
+
+both-requires : tie.Need-both-requires
+both-requires c κs = search needs
+
+either-requires-2 : tie.Need-either-requires-2
+either-requires-2 c κs = search needs
+
+enum-told : tie.Need-enum-told
+enum-told c = search needs
+
+returns : tie.Need-returns
+unfolding kindOf
+returns c = rw (c .before .before .before .before .e .given .1, c .before .before .before .before .before .before .before .before .before .nal-ref-idc .ensures, c .either2 .ensures, c .before .both .ensures, c .before .before .non-idr-flag .ensures, c .before .before .before .before .before .before .either .ensures, c .before .before .before .before .before .before .before .id .ensures, c .before .before .before .before .before .before .before .before .nal-unit-type .ensures, and-true, and-false)
+
+returns-2 : tie.Need-returns-2
+unfolding kindOf
+returns-2 c = rw (c .enum-told .given .1, c .before .before .before .before .before .nal-ref-idc .ensures, c .before .before .either .ensures, c .before .before .before .id .ensures, c .before .before .before .before .nal-unit-type .ensures, and-false, and-true, or-false)
+
+pub kind-of-spec : {M : Type 1} → statement M
+kind-of-spec =
+    tie.close
+    (tie.spec
+    nal-ref-idc-requires
+    nal-unit-type-requires
+    id-requires
+    either-requires
+    enum-known-e
+    non-idr-flag-requires
+    both-requires
+    either-requires-2
+    enum-told
+    returns
+    returns-2)

@@ -1,0 +1,12 @@
+pub mod Absent
+pub mod Operations
+pub mod Parts
+pub mod Weights
+pub mod Sets
+pub mod Goods
+pub mod Whole
+pub mod Header
+pub mod Sizes
+pub mod ListSizes
+pub mod HeaderSize
+pub mod Examples

@@ -1,0 +1,6 @@
+pub mod Marks
+pub mod Lists
+pub mod Context
+pub mod SliceHeader
+pub mod Prefix
+pub mod Sample

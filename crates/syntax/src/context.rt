@@ -1,0 +1,23 @@
+// What the header's syntax depends on, outside the header: the unit's first byte and extension, and the sets that the header names.
+use table::sets::Picture;
+use table::sets::Sequence;
+
+// What the first byte and the extension say.
+#[repr(C)]
+pub struct UnitKind {
+    // nal_ref_idc is not 0
+    pub reference: bool,
+    // IdrPicFlag: type 5, or types 20 and 21 with non_idr_flag 0
+    pub idr: bool,
+    // types 20 and 21 with the extension's top bit clear
+    pub mvc: bool,
+    // types 20 and 21 with the extension's top bit set
+    pub svc: bool,
+}
+
+#[repr(C)]
+pub struct Context {
+    pub kind: UnitKind,
+    pub picture: Picture,
+    pub sequence: Sequence,
+}

@@ -1,0 +1,3 @@
+pub mod Counts
+pub mod Halves
+pub mod Steps
