@@ -2,12 +2,15 @@
 use mathlib.Core.Path.{_≡_}
 use mathlib.Core.List.{List, [], _∷_}
 use Prim.Native.Nat.{ℕ}
-use lib.IntN.{ℤ, negsuc}
-use Rattle.bits.specs.Refusals.{Res, got}
+use lib.IntN.{ℤ, pos, negsuc}
+use Rattle.bits.specs.Refusals.{Res, got, no, refusal}
 use Rattle.bits.specs.Bits.{bitsOf}
 use Rattle.bits.specs.Codes.{ueAt, seAt}
 use Rattle.bits.specs.Width.{changeCycleWidth}
 use Rattle.nal.specs.Body.{body}
+use Rattle.syntax.specs.declared.record.SliceHeader.{SliceHeader}
+use Rattle.syntax.specs.SliceHeader.{readHeader}
+use Rattle.syntax.specs.Sample.{sampleTable, sampleKind, sampleHeader}
 
 pub data Example : Type 0 where
   -- bytes whose first code is read, and what reading gives
@@ -15,6 +18,8 @@ pub data Example : Type 0 where
   se : List ℕ → Res ℤ → Example
   -- the rest of a unit, and its unescaped body
   unescaped : List ℕ → List ℕ → Example
+  -- the body of a unit with first byte 65, and its header, read with the sample sets
+  header : List ℕ → Res SliceHeader → Example
   -- size, rate, and the change cycle's width
   width : ℕ → ℕ → ℕ → Example
 
@@ -22,6 +27,7 @@ abbrev pub Holds : Example → Type 0
 Holds (ue s r) = ueAt (bitsOf s) 0 ≡ r
 Holds (se s r) = seAt (bitsOf s) 0 ≡ r
 Holds (unescaped s b) = body 0 s ≡ b
+Holds (header s r) = readHeader sampleTable sampleKind (bitsOf s) ≡ r
 Holds (width size rate b) = changeCycleWidth size rate ≡ b
 
 abbrev pub All : List Example → Type 0
@@ -40,6 +46,12 @@ marked =
     ∷ se (0b0110_0000 ∷ []) (got (negsuc 0) 3)
     -- P5
     ∷ unescaped (0 ∷ 0 ∷ 3 ∷ 0 ∷ 0 ∷ 3 ∷ 1 ∷ []) (0 ∷ 0 ∷ 0 ∷ 0 ∷ 1 ∷ [])
+    -- P6 `65 88 84 A0`
+    ∷ header (0x88 ∷ 0x84 ∷ 0xA0 ∷ []) (got sampleHeader 17)
+    -- P7 `65 88 84 80`
+    ∷ header (0x88 ∷ 0x84 ∷ 0x80 ∷ []) (no (refusal 22 (pos 0) 17))
+    -- P8 `65 88 84 C0`
+    ∷ header (0x88 ∷ 0x84 ∷ 0xC0 ∷ []) (no (refusal 22 (pos 0) 17))
     -- P9, P10, P11
     ∷ width 99 11 4
     ∷ width 7 1 3

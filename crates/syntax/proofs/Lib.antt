@@ -9,4 +9,3 @@ pub mod Header
 pub mod Sizes
 pub mod ListSizes
 pub mod HeaderSize
-pub mod Examples
