@@ -1,3 +1,6 @@
 pub mod AnySet
 pub mod Sets
 pub mod Unique
+pub mod Split
+pub mod Counts
+pub mod Cases

@@ -2,6 +2,8 @@
 use Prim.Native.Nat.{ℕ}
 use mathlib.Core.List.{List}
 use Rattle.bits.specs.Refusals.{Res, got, no}
+use Rattle.bits.specs.Answers.{none}
+use Rattle.bits.specs.declared.refusals.Refusal.{Refusal}
 use Rattle.table.specs.declared.table.Table.{Table}
 use Rattle.syntax.specs.Context.{pictureFor, sequenceFor}
 use Rattle.header.specs.declared.lead.Led.{Led}
@@ -25,3 +27,7 @@ ledOf t v =
 abbrev pub asLead : LeadStep → Res Led
 asLead (LeadStep.Got l c) = got l (c .at)
 asLead (LeadStep.Refused r) = no r
+
+abbrev pub whyLead : LeadStep → Refusal
+whyLead (LeadStep.Got l c) = none
+whyLead (LeadStep.Refused r) = r

@@ -1,3 +1,4 @@
 pub mod Kinds
 pub mod Lead
 pub mod Whole
+pub mod Stages

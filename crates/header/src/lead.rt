@@ -19,7 +19,7 @@ ghost use mathlib.Core.Path.{_≡_};
 ghost use Rattle.bits.specs.Bits.{bitsOf};
 ghost use Rattle.bits.specs.Refusals.{got, bind};
 ghost use Rattle.syntax.specs.SliceHeader.{lead};
-ghost use Rattle.header.specs.Lead.{asLead, tableOf, ledOf};
+ghost use Rattle.header.specs.Lead.{asLead, whyLead, tableOf, ledOf};
 
 pub struct Led {
     pub first_mb_in_slice: u32,
@@ -32,6 +32,19 @@ pub struct Led {
 pub enum LeadStep {
     Got(Led, Cursor),
     Refused(Refusal),
+}
+
+// The refusal of an answer that is one, for a `let .. else`, which cannot bind it.
+pub fn why_lead(a: LeadStep) -> Refusal
+    ensures { λ r. ⌜ r ≡ whyLead a ⌝ }
+{
+    match a {
+        LeadStep::Got(_, _) => Refusal {
+            number: 0,
+            value: 0,
+        },
+        LeadStep::Refused(r) => r,
+    }
 }
 
 pub fn lead<'a>(
