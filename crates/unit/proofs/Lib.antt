@@ -1,0 +1,4 @@
+pub mod Opened
+pub mod Answers
+pub mod Cases
+pub mod Examples

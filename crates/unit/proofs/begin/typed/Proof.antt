@@ -1,0 +1,70 @@
+use borrow.Author.Tests.{not-true, not-false}
+use Rattle.unit.specs.Begin.{typed}
+use borrow.Author.Needs.{needs}
+use Rattle.unit.proofs.begin.typed.Statement.{statement}
+use Rattle.unit.proofs.begin.typed.Tie as tie
+
+nal-unit-type-requires : tie.Need-nal-unit-type-requires
+nal-unit-type-requires c κs = search needs
+
+id-requires : tie.Need-id-requires
+id-requires c κs = search needs
+
+either-requires : tie.Need-either-requires
+either-requires c κs = search needs
+
+absent-extension-requires : tie.Need-absent-extension-requires
+absent-extension-requires c κs = search needs
+
+kind-of-requires : tie.Need-kind-of-requires
+kind-of-requires c κs = search needs
+
+returns : tie.Need-returns
+unfolding typed
+returns c = rw (c .kind-of .ensures, c .before .absent-extension .ensures, ← c .before .before .before .before .before .nal-unit-type .ensures, ← c .before .before .before .before .id .ensures, ← c .before .before .before .either .ensures, c .before .before .if1 .taken)
+
+has-extension-requires : tie.Need-has-extension-requires
+has-extension-requires c κs = search needs
+
+returns-2 : tie.Need-returns-2
+unfolding typed
+returns-2 c = rw (← c .before .before .before .before .before .nal-unit-type .ensures, ← c .before .before .before .before .id .ensures, ← c .before .before .before .either .ensures, c .before .before .if1 .left, ← c .before .has-extension .ensures, not-true (c .before .has-extension .result) (c .if2 .taken))
+
+extension-of-requires : tie.Need-extension-of-requires
+extension-of-requires c κs = search needs
+
+enum-known-e : tie.Need-enum-known-e
+enum-known-e c = search needs
+
+extended-requires : tie.Need-extended-requires
+extended-requires c κs = search needs
+
+enum-known-r : tie.Need-enum-known-r
+enum-known-r c = search needs
+
+returns-3 : tie.Need-returns-3
+unfolding typed
+returns-3 c = rw (c .extended .ensures, ← c .before .before .before .before .before .before .before .before .before .before .nal-unit-type .ensures, ← c .before .before .before .before .before .before .before .before .before .id .ensures, ← c .before .before .before .before .before .before .before .before .either .ensures, c .before .before .before .before .before .before .before .if1 .left, ← c .before .before .before .before .before .before .has-extension .ensures, not-false (c .before .before .before .before .before .before .has-extension .result) (c .before .before .before .before .before .if2 .left), ← c .before .before .before .before .extension-of .ensures, c .before .before .e .given .1)
+
+returns-4 : tie.Need-returns-4
+unfolding typed
+returns-4 c = rw (← c .before .before .before .before .before .before .before .before .before .nal-unit-type .ensures, ← c .before .before .before .before .before .before .before .before .id .ensures, ← c .before .before .before .before .before .before .before .either .ensures, c .before .before .before .before .before .before .if1 .left, ← c .before .before .before .before .before .has-extension .ensures, not-false (c .before .before .before .before .before .has-extension .result) (c .before .before .before .before .if2 .left), ← c .before .before .before .extension-of .ensures, c .before .r .given .1)
+
+pub typed-spec : {M : Type 1} → statement M
+typed-spec =
+    tie.close
+    (tie.spec
+    nal-unit-type-requires
+    id-requires
+    either-requires
+    absent-extension-requires
+    kind-of-requires
+    returns
+    has-extension-requires
+    returns-2
+    extension-of-requires
+    enum-known-e
+    extended-requires
+    enum-known-r
+    returns-3
+    returns-4)

@@ -1,0 +1,97 @@
+// What a unit's first bytes say of its body: the checks that come before scratch is used.
+use bits::refusals::LIMIT;
+use bits::refusals::Refusal;
+use bits::refusals::TOO_LARGE;
+use bits::refusals::refuse;
+use codes::conditions::both;
+use codes::conditions::either;
+use header::kinds::kind_of;
+use nal::extension::ExtensionRead;
+use nal::extension::NalHeaderExtension;
+use nal::extension::NalHeaderMvcExtension;
+use nal::extension::extension_of;
+use nal::header::NalHeader;
+use nal::header::NalHeaderRead;
+use nal::header::header_of;
+use syntax::context::UnitKind;
+ghost use mathlib.Core.Bool.{not};
+ghost use mathlib.Core.Path.{_≡_};
+ghost use Rattle.header.specs.Kinds.{isMvc};
+ghost use Rattle.unit.specs.Begin.{absentExtension, hasExtension, extended, typed, begun};
+
+pub enum Begun {
+    // a slice, and the place where its body starts
+    Slice(UnitKind, usize),
+    // a prefix unit, and whether its body is read
+    Prefix(bool),
+    // a unit of another type
+    Other(u8),
+    Refused(Refusal),
+}
+
+// The extension of a unit that has none.
+fn absent_extension() -> NalHeaderExtension
+    ensures { λ r. ⌜ r ≡ absentExtension ⌝ }
+{
+    NalHeaderExtension::Mvc(NalHeaderMvcExtension {
+        b1: 0,
+        b2: 0,
+        b3: 0,
+    })
+}
+
+fn is_svc(e: NalHeaderExtension) -> bool
+    ensures { λ r. ⌜ r ≡ not (isMvc e) ⌝ }
+{
+    match e {
+        NalHeaderExtension::Mvc(_) => false,
+        NalHeaderExtension::Svc(_) => true,
+    }
+}
+
+// Types 14, 20 and 21.
+fn has_extension(t: u8) -> bool
+    ensures { λ r. ⌜ r ≡ hasExtension t ⌝ }
+{
+    either(t == 14, either(t == 20, t == 21))
+}
+
+// A unit of type 14, 20 or 21, with its extension.
+fn extended(h: NalHeader, e: NalHeaderExtension) -> Begun
+    ensures { λ r. ⌜ r ≡ extended h e ⌝ }
+{
+    if h.nal_unit_type().id() == 14 {
+        return Begun::Prefix(both(is_svc(e), h.nal_ref_idc() != 0));
+    }
+    Begun::Slice(kind_of(h, e), 4)
+}
+
+// A unit by its type.
+fn typed(unit: &[u8], h: NalHeader) -> Begun
+    ensures { λ r. ⌜ r ≡ typed (now (unit .entry)) h ⌝ }
+{
+    let t = h.nal_unit_type().id();
+    if either(t == 1, t == 5) {
+        return Begun::Slice(kind_of(h, absent_extension()), 1);
+    }
+    if !has_extension(t) {
+        return Begun::Other(t);
+    }
+    match extension_of(unit) {
+        ExtensionRead::Got(e) => extended(h, e),
+        ExtensionRead::Refused(r) => Begun::Refused(r),
+    }
+}
+
+// The size, the first byte and the extension, in this order.
+pub fn begin(unit: &[u8]) -> Begun
+    ensures { λ r. ⌜ r ≡ begun (now (unit .entry)) ⌝ }
+{
+    if LIMIT < unit.len() {
+        return Begun::Refused(refuse(TOO_LARGE, 0, 0));
+    }
+    match header_of(unit) {
+        NalHeaderRead::Got(h) => typed(unit, h),
+        NalHeaderRead::Refused(r) => Begun::Refused(r),
+    }
+}
