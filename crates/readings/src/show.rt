@@ -1,0 +1,103 @@
+// A unit read with the sample sets, and a picture set 1 with deblocking control: its answer as text.
+use libc::STDOUT_FILENO;
+use syntax::record::SliceHeader;
+use table::sets::Picture;
+use table::sets::Sequence;
+use table::table::Table;
+use table::table::empty;
+use table::table::with_picture;
+use table::table::with_sequence;
+use unit::answer::UnitAnswer;
+use unit::unit::read_unit_in;
+
+fn text(t: &[u8]) {
+    io::write_all(STDOUT_FILENO, t);
+}
+
+fn field(name: &[u8], n: u32) {
+    text(name);
+    io::print_decimal(STDOUT_FILENO, n as u64);
+}
+
+// Document 01's sample picture set, with deblocking control or without.
+fn picture(control: bool) -> Picture {
+    Picture {
+        seq_parameter_set_id: 0,
+        entropy_coding_mode_flag: false,
+        bottom_field_pic_order_in_frame_present_flag: false,
+        num_ref_idx_l0_default_active_minus1: 0,
+        num_ref_idx_l1_default_active_minus1: 0,
+        weighted_pred_flag: false,
+        weighted_bipred_idc: 0,
+        pic_init_qp_minus26: 0,
+        pic_init_qs_minus26: 0,
+        deblocking_filter_control_present_flag: control,
+        redundant_pic_cnt_present_flag: false,
+        slice_group_change_rate: 0,
+    }
+}
+
+fn sequence() -> Sequence {
+    Sequence {
+        chroma_format_idc: 1,
+        separate_colour_plane_flag: false,
+        bit_depth_luma_minus8: 0,
+        log2_max_frame_num: 4,
+        pic_order_cnt_type: 2,
+        log2_max_pic_order_cnt_lsb_minus4: 0,
+        delta_pic_order_always_zero_flag: false,
+        frame_mbs_only_flag: true,
+        pic_size_in_map_units: 99,
+    }
+}
+
+fn sample_table() -> Table {
+    let a = with_sequence(empty(), 0, sequence());
+    let first = a.table;
+    let b = with_picture(first, 0, picture(false));
+    let second = b.table;
+    let c = with_picture(second, 1, picture(true));
+    c.table
+}
+
+pub(crate) fn shown(name: &[u8], bytes: &[u8], value: i64, said: &[u8]) {
+    let t = sample_table();
+    let mut scratch = [0u8; 128];
+    let r = read_unit_in(&t.sequences, &t.pictures, bytes, &mut scratch);
+    let answer = r.answer;
+    let h = r.header;
+    text(name);
+    match answer {
+        UnitAnswer::Slice(n) => {
+            text(b": slice bits=");
+            io::print_decimal(STDOUT_FILENO, n as u64);
+            header(h);
+        }
+        UnitAnswer::Prefix => text(b": prefix"),
+        UnitAnswer::Other(_) => text(b": other"),
+        UnitAnswer::Refused(x) => {
+            field(b": refused ", x.number as u32);
+            text(b" value=");
+            if x.value == value {
+                text(said);
+            } else {
+                text(b"other");
+            }
+        }
+    }
+    text(b"\n");
+}
+
+fn header(h: SliceHeader) {
+    let a = h.active_counts;
+    let m = h.modifications;
+    let l = m.l0;
+    let o = l.operations;
+    let f = h.filter;
+    let n = a.num_ref_idx_l0_active_minus1;
+    let idc = f.disable_deblocking_filter_idc;
+    field(b" slice_type=", h.slice_type);
+    field(b" active=", n.value);
+    field(b" mods=", o.count);
+    field(b" idc=", idc.value);
+}
