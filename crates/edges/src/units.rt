@@ -4,6 +4,8 @@ use nal::escape::Body;
 use nal::escape::unescape;
 use nal::extension::ExtensionRead;
 use nal::extension::NalHeaderExtension;
+use nal::extension::NalHeaderMvcExtension;
+use nal::extension::NalHeaderSvcExtension;
 use nal::extension::extension_of;
 use nal::header::NalHeader;
 use nal::header::NalHeaderRead;
@@ -106,26 +108,36 @@ fn show_extension(name: &[u8], a: ExtensionRead) {
 
 fn extension(e: NalHeaderExtension) {
     match e {
-        NalHeaderExtension::Mvc(m) => {
-            flag(b"mvc non_idr_flag=", m.non_idr_flag());
-            field(b" priority_id=", m.priority_id() as u64);
-            field(b" view_id=", m.view_id() as u64);
-            field(b" temporal_id=", m.temporal_id() as u64);
-            flag(b" anchor_pic_flag=", m.anchor_pic_flag());
-            flag(b" inter_view_flag=", m.inter_view_flag());
-        }
+        NalHeaderExtension::Mvc(m) => mvc(m),
         NalHeaderExtension::Svc(v) => {
-            flag(b"svc idr_flag=", v.idr_flag());
-            field(b" priority_id=", v.priority_id() as u64);
-            flag(b" no_inter_layer_pred_flag=", v.no_inter_layer_pred_flag());
-            field(b" dependency_id=", v.dependency_id() as u64);
-            field(b" quality_id=", v.quality_id() as u64);
-            field(b" temporal_id=", v.temporal_id() as u64);
-            flag(b" use_ref_base_pic_flag=", v.use_ref_base_pic_flag());
-            flag(b" discardable_flag=", v.discardable_flag());
-            flag(b" output_flag=", v.output_flag());
+            svc_layer(v);
+            svc_picture(v);
         }
     }
+}
+
+fn mvc(m: NalHeaderMvcExtension) {
+    flag(b"mvc non_idr_flag=", m.non_idr_flag());
+    field(b" priority_id=", m.priority_id() as u64);
+    field(b" view_id=", m.view_id() as u64);
+    field(b" temporal_id=", m.temporal_id() as u64);
+    flag(b" anchor_pic_flag=", m.anchor_pic_flag());
+    flag(b" inter_view_flag=", m.inter_view_flag());
+}
+
+fn svc_layer(v: NalHeaderSvcExtension) {
+    flag(b"svc idr_flag=", v.idr_flag());
+    field(b" priority_id=", v.priority_id() as u64);
+    flag(b" no_inter_layer_pred_flag=", v.no_inter_layer_pred_flag());
+    field(b" dependency_id=", v.dependency_id() as u64);
+    field(b" quality_id=", v.quality_id() as u64);
+}
+
+fn svc_picture(v: NalHeaderSvcExtension) {
+    field(b" temporal_id=", v.temporal_id() as u64);
+    flag(b" use_ref_base_pic_flag=", v.use_ref_base_pic_flag());
+    flag(b" discardable_flag=", v.discardable_flag());
+    flag(b" output_flag=", v.output_flag());
 }
 
 fn mvc_extensions() {
