@@ -88,7 +88,7 @@ fn run(bytes: &[u8], n: u32, code: impl Fn(&[u8], usize) -> Code) -> u64 {
     (u64::from(count) << 32) + u64::from(sum)
 }
 
-/// Marsaglia's xorshift: the same numbers in each run.
+/// An xorshift: the same numbers in each run.
 struct Random(u64);
 
 impl Random {
