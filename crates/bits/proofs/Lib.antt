@@ -15,3 +15,4 @@ pub mod UeCodes
 pub mod SeCodes
 pub mod Writes
 pub mod Widths
+pub mod RoundTrips
