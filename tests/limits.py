@@ -66,7 +66,7 @@ def sets():
     lines.append("pictures 4, 5, 6: absent there 0:0:same:same absent")
     lines.append(f"refused over a set: {REFUSED}, sequences 4, 5, 6: absent there 1:4:99 absent")
     lines.append("a lent chroma format of 4: absent")
-    lines.append("a lent flag of 2: absent")
+    lines.append("a lent first word of 16: absent")
 
 
 sets()

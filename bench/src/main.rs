@@ -1,9 +1,11 @@
 //! Codes ue(v) read through the static library, against two plain Rust readers, on the same bytes in one run; then look-ups in the parameter table.
-//! Best of several rounds, in nanoseconds a code; the ratio to the Rust that reads by windows comes first.
+//! Best of several rounds, in nanoseconds of processor time a code; the ratio to the Rust that reads by windows comes first.
 
 use std::hint::black_box;
-use std::time::Instant;
 
+use crate::cpu::nanoseconds;
+
+mod cpu;
 mod sets;
 
 extern "C" {
@@ -147,9 +149,9 @@ fn agree(random: &mut Random) -> u64 {
 fn best(n: u32, want: u64, f: impl Fn() -> u64) -> f64 {
     let mut best = f64::MAX;
     for _ in 0..25 {
-        let start = Instant::now();
+        let start = nanoseconds();
         let got = black_box(f());
-        best = best.min(start.elapsed().as_nanos() as f64 / f64::from(n));
+        best = best.min((nanoseconds() - start) / f64::from(n));
         assert_eq!(got, want);
     }
     best

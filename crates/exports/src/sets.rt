@@ -14,7 +14,7 @@ pub struct PictureOut {
     pub picture: Picture,
 }
 
-fn picture_out(t: &[u32; 3328], id: u32) -> PictureOut
+fn picture_out(t: &[u32; 2048], id: u32) -> PictureOut
     ensures { λ r. ⌜ r ≡ pictureOut (pictureIn (now (t .entry)) id) ⌝ }
 {
     match picture_in(t, id) {

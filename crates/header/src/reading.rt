@@ -40,8 +40,8 @@ fn refused(r: Refusal) -> HeaderRead
 pub fn read_header<'a>(
     s: &'a [u8],
     kind: UnitKind,
-    sequences: &'a [u32; 320],
-    pictures: &'a [u32; 3328],
+    sequences: &'a [u32; 224],
+    pictures: &'a [u32; 2048],
 ) -> HeaderRead
     ensures { λ r. ⌜ r ≡ headerAnswer (readHeader (tableOf (now (sequences .entry)) (now (pictures .entry))) kind (bitsOf (now (s .entry)))) ⌝ }
 {

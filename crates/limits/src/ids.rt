@@ -88,16 +88,16 @@ fn refused_over_a_set() {
     neighbours_of_sequence(after);
 }
 
-// Words that no put writes: an entry out of range, or with a flag of 2, counts as not there.
+// Words that no put writes: an entry out of range, or with more than flags in its first word, counts as not there.
 fn lent_out_of_range() {
     let w = with_sequence(empty(), 5, sequences::sample());
     let mut t = w.table;
-    t.sequences[51] = 4;
+    t.sequences[36] = 4;
     show::text(b"a lent chroma format of 4:");
     show::found_sequence(sequence_in(&t.sequences, 5));
-    t.sequences[51] = 1;
-    t.sequences[58] = 2;
-    show::text(b"\na lent flag of 2:");
+    t.sequences[36] = 1;
+    t.sequences[35] = 16;
+    show::text(b"\na lent first word of 16:");
     show::found_sequence(sequence_in(&t.sequences, 5));
     show::text(b"\n");
 }

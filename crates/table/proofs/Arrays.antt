@@ -54,7 +54,7 @@ pub record Kind (S F : Type 0) : Type 0 where
   pub passes : (s : S) → fits s ≡ true → all (tests (words s)) ≡ true
   pub back : (s : S) → fits s ≡ true → of (words s) ≡ s
   -- words that hold a set have the mark, and the set is within the ranges
-  pub tested : (w : List ℕ) → all (tests w) ≡ true → (getD w 0 0 ≡ 1) × (fits (of w) ≡ true)
+  pub tested : (w : List ℕ) → all (tests w) ≡ true → (1 ≤ getD w 0 0) × (fits (of w) ≡ true)
   -- what is there is that set alone
   pub one : (r s : S) → there r ≡ there s → r ≡ s
   pub apart : (s : S) → absent ≡ there s → ⊥

@@ -1,21 +1,23 @@
 -- The laws of the parameter table, for the crates above: what is found after a put, what is known of a set that is found, and that a new table is empty.
 use mathlib.Core.Path.{_≡_, refl, ap, _∙_}
 use mathlib.Core.Bool.{Bool, true, false, _&&_}
-use mathlib.Core.List.{List}
-use Prim.Native.Nat.{ℕ, _≤_}
+use mathlib.Core.List.{List, [], _∷_}
+use Prim.Native.Nat.{ℕ, suc, _+_, _-_, _≤_, _^_}
 use native.Mathlib.Omega.{arith}
-use lib.Dec.{leb, eqb}
-use lib.ListN.{length, length-replicate}
-use borrow.Author.Tests.{eqb-true}
+use lib.Dec.{leb}
+use lib.ListN.{length, getD, length-replicate}
+use borrow.Author.Tests.{leb-true, le-leb}
+use Rattle.bits.specs.Bits.{Bits, digits, numberOf}
+use Rattle.bits.proofs.Digits.{number-lt, digits-number}
 use Rattle.table.specs.declared.sets.Picture.{Picture}
 use Rattle.table.specs.declared.sets.Sequence.{Sequence}
 use Rattle.table.specs.declared.table.Table.{Table}
 use Rattle.table.specs.declared.words.Changed.{Changed}
 use Rattle.table.specs.declared.words.FoundPicture.{FoundPicture}
 use Rattle.table.specs.declared.words.FoundSequence.{FoundSequence}
-use Rattle.table.specs.Sets.{all, sequenceFits, pictureFits}
-use Rattle.table.specs.Tables.{wordOf, isFlag, sequenceWords, sequenceOf, sequenceTests, sequenceEntry, sequenceIn, sequencePut, pictureWords, pictureOf, pictureTests, pictureEntry, pictureIn, picturePut, emptyTable, sequenceAt, pictureAt, putSequence, putPicture}
-use Rattle.table.proofs.Tests.{each, next, last}
+use Rattle.table.specs.Sets.{between, all, sequenceFits, pictureFits}
+use Rattle.table.specs.Tables.{sequenceMarks, sequenceWords, sequenceOf, sequenceTests, sequenceEntry, sequenceIn, sequencePut, pictureMarks, pictureWords, pictureOf, pictureTests, pictureEntry, pictureIn, picturePut, emptyTable, sequenceAt, pictureAt, putSequence, putPicture}
+use Rattle.table.proofs.Tests.{both, each, next, last}
 use Rattle.table.proofs.Signs.{raised-back}
 use Rattle.table.proofs.Ranges.{SequenceRanges, sequence-ranges, PictureRanges, picture-ranges}
 use Rattle.table.proofs.Looking.{same-sequence, same-picture}
@@ -24,26 +26,29 @@ use Rattle.table.proofs.Arrays.{Kind, put-length, put-there, put-other,
 
 -- ---- the two kinds
 
-flag : (b : Bool) → isFlag (wordOf b) ≡ true
-flag true = refl
-flag false = refl
+-- a first word's digits are the flags
+flag-back : (l : Bits) (k : ℕ) → getD (digits (length l) (numberOf l)) k false ≡ getD l k false
+flag-back l k = ap (λ (x : Bits). getD x k false) (digits-number l)
 
-flag-back : (b : Bool) → eqb (wordOf b) 1 ≡ b
-flag-back true = refl
-flag-back false = refl
+-- a one before n flags
+mark-fits : (l : Bits) → between (2 ^ length l) (2 ^ length l + 2 ^ length l - 1) (numberOf (true ∷ l)) ≡ true
+unfolding numberOf
+mark-fits l = rw (le-leb (2 ^ length l) (2 ^ length l + numberOf l) (omega arith), le-leb (2 ^ length l + numberOf l) (2 ^ length l + 2 ^ length l - 1) (omega (arith, number-lt l)))
+
+-- so it is not zero
+marked : (low high w : ℕ) → between (suc low) high w ≡ true → 1 ≤ w
+marked low high w h = omega (arith, leb-true (suc low) w (both _ _ h .0))
 
 sequence-back : (s : Sequence) → sequenceOf (sequenceWords s) ≡ s
-unfolding sequenceOf sequenceWords
+unfolding sequenceOf sequenceWords sequenceMarks digits
 sequence-back s =
-    rw (flag-back (s .«separate_colour_plane_flag»), flag-back (s .«delta_pic_order_always_zero_flag»), flag-back (s .«frame_mbs_only_flag»))
+    let f = flag-back (true ∷ s .«separate_colour_plane_flag» ∷ s .«delta_pic_order_always_zero_flag» ∷ s .«frame_mbs_only_flag» ∷ []) in
+    rw (f 1, f 2, f 3)
 
 sequence-passes : (s : Sequence) → sequenceFits s ≡ true → all (sequenceTests (sequenceWords s)) ≡ true
-unfolding sequenceWords
+unfolding sequenceWords sequenceMarks
 sequence-passes s g =
-    next _ refl
-    ∙ next _ (flag (s .«separate_colour_plane_flag»))
-    ∙ next _ (flag (s .«delta_pic_order_always_zero_flag»))
-    ∙ next _ (flag (s .«frame_mbs_only_flag»))
+    next _ (mark-fits (s .«separate_colour_plane_flag» ∷ s .«delta_pic_order_always_zero_flag» ∷ s .«frame_mbs_only_flag» ∷ []))
     ∙ last _
     ∙ ap sequenceFits (sequence-back s)
     ∙ g
@@ -58,7 +63,7 @@ abbrev sequences : Kind Sequence FoundSequence
 unfolding sequenceEntry sequenceWords
 sequences =
     record {
-      width = 10;
+      width = 7;
       last = 31;
       there = FoundSequence.There;
       absent = FoundSequence.Absent;
@@ -70,36 +75,32 @@ sequences =
       sized = λ s. refl;
       passes = sequence-passes;
       back = λ s g. sequence-back s;
-      tested = λ w h. let e = each (sequenceTests w) h in (eqb-true _ 1 (e .0), e .1 .1 .1 .1 .0);
+      tested = λ w h. let e = each (sequenceTests w) h in (marked 7 15 _ (e .0), e .1 .0);
       one = one-sequence;
       apart = no-sequence;
     }
 
+abbrev flags : Picture → Bits
+flags p =
+    p .«entropy_coding_mode_flag» ∷ p .«bottom_field_pic_order_in_frame_present_flag» ∷ p .«weighted_pred_flag» ∷ p .«deblocking_filter_control_present_flag» ∷ p .«redundant_pic_cnt_present_flag» ∷ []
+
 picture-back : (p : Picture) → pictureFits p ≡ true → pictureOf (pictureWords p) ≡ p
-unfolding pictureOf pictureWords
+unfolding pictureOf pictureWords pictureMarks digits
 picture-back p g =
+    let f = flag-back (true ∷ flags p) in
     rw (
-      flag-back (p .«entropy_coding_mode_flag»),
-      flag-back (p .«bottom_field_pic_order_in_frame_present_flag»),
-      flag-back (p .«weighted_pred_flag»),
+      f 1,
+      f 2,
+      f 3,
       raised-back 62 (p .«pic_init_qp_minus26») (picture-ranges p g .qp),
       raised-back 26 (p .«pic_init_qs_minus26») (picture-ranges p g .qs),
-      flag-back (p .«deblocking_filter_control_present_flag»),
-      flag-back (p .«redundant_pic_cnt_present_flag»),
+      f 4,
+      f 5,
     )
 
 picture-passes : (p : Picture) → pictureFits p ≡ true → all (pictureTests (pictureWords p)) ≡ true
-unfolding pictureWords
-picture-passes p g =
-    next _ refl
-    ∙ next _ (flag (p .«entropy_coding_mode_flag»))
-    ∙ next _ (flag (p .«bottom_field_pic_order_in_frame_present_flag»))
-    ∙ next _ (flag (p .«weighted_pred_flag»))
-    ∙ next _ (flag (p .«deblocking_filter_control_present_flag»))
-    ∙ next _ (flag (p .«redundant_pic_cnt_present_flag»))
-    ∙ last _
-    ∙ ap pictureFits (picture-back p g)
-    ∙ g
+unfolding pictureWords pictureMarks
+picture-passes p g = next _ (mark-fits (flags p)) ∙ last _ ∙ ap pictureFits (picture-back p g) ∙ g
 
 one-picture : (p q : Picture) → FoundPicture.There p ≡ FoundPicture.There q → p ≡ q
 one-picture p q h = cc
@@ -111,7 +112,7 @@ abbrev pictures : Kind Picture FoundPicture
 unfolding pictureEntry pictureWords
 pictures =
     record {
-      width = 13;
+      width = 8;
       last = 255;
       there = FoundPicture.There;
       absent = FoundPicture.Absent;
@@ -123,7 +124,7 @@ pictures =
       sized = λ p. refl;
       passes = picture-passes;
       back = picture-back;
-      tested = λ w h. let e = each (pictureTests w) h in (eqb-true _ 1 (e .0), e .1 .1 .1 .1 .1 .1 .0);
+      tested = λ w h. let e = each (pictureTests w) h in (marked 31 63 _ (e .0), e .1 .0);
       one = one-picture;
       apart = no-picture;
     }
@@ -132,7 +133,7 @@ pictures =
 
 module _ (t : List ℕ) (id : ℕ) (s : Sequence) where
   -- the named entry holds the new set
-  pub put-sequence-there : length t ≡ 320 → id ≤ 31 → sequenceFits s ≡ true → sequenceIn (sequencePut t id s .left) id ≡ FoundSequence.There s
+  pub put-sequence-there : length t ≡ 224 → id ≤ 31 → sequenceFits s ≡ true → sequenceIn (sequencePut t id s .left) id ≡ FoundSequence.There s
   unfolding sequenceIn sequencePut sequenceEntry sequenceWords
   put-sequence-there = put-there sequences t id s
 
@@ -166,7 +167,7 @@ module _ (t : List ℕ) (id : ℕ) (s : Sequence) where
 
 module _ (t : List ℕ) (id : ℕ) (p : Picture) where
   -- the named entry holds the new set
-  pub put-picture-there : length t ≡ 3328 → id ≤ 255 → pictureFits p ≡ true → pictureIn (picturePut t id p .left) id ≡ FoundPicture.There p
+  pub put-picture-there : length t ≡ 2048 → id ≤ 255 → pictureFits p ≡ true → pictureIn (picturePut t id p .left) id ≡ FoundPicture.There p
   unfolding pictureIn picturePut pictureEntry pictureWords
   put-picture-there = put-there pictures t id p
 
@@ -200,8 +201,8 @@ module _ (t : List ℕ) (id : ℕ) (p : Picture) where
 
 -- the arrays have an entry for each id
 pub record Sized (t : Table) : Type 0 where
-  pub sequences-long : length (t .sequences) ≡ 320
-  pub pictures-long : length (t .pictures) ≡ 3328
+  pub sequences-long : length (t .sequences) ≡ 224
+  pub pictures-long : length (t .pictures) ≡ 2048
 
 module _ (t : Table) (z : Sized t) (id : ℕ) where
   pub put-sequence-sized : (s : Sequence) → Sized (putSequence t id s .table)
@@ -221,11 +222,11 @@ module _ (t : Table) (id j : ℕ) where
 -- a new table holds nothing
 pub empty-sequence : (id : ℕ) → sequenceAt emptyTable id ≡ FoundSequence.Absent
 unfolding sequenceIn sequenceEntry sequenceWords
-empty-sequence = empty-absent sequences 320
+empty-sequence = empty-absent sequences 224
 
 pub empty-picture : (id : ℕ) → pictureAt emptyTable id ≡ FoundPicture.Absent
 unfolding pictureIn pictureEntry pictureWords
-empty-picture = empty-absent pictures 3328
+empty-picture = empty-absent pictures 2048
 
 pub empty-sized : Sized emptyTable
-empty-sized = record { sequences-long = length-replicate {A = ℕ} 320 0; pictures-long = length-replicate {A = ℕ} 3328 0 }
+empty-sized = record { sequences-long = length-replicate {A = ℕ} 224 0; pictures-long = length-replicate {A = ℕ} 2048 0 }

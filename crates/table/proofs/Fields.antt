@@ -45,32 +45,32 @@ pub record Field : Type 2 where
 
 abbrev pub sequences-field : Field
 sequences-field = record {
-  size = 320;
+  size = 224;
   number = 0;
   far = 0;
   of = λ t. t .sequences;
   put = λ t ys. record { sequences = ys; pictures = t .pictures };
   lies = refl;
-  part = λ 𝓤 H A W. part-cut 𝓤 H A W T.the-row (Array u32 320) 0 (λ t. t .sequences)
-      (λ s h b o. cut-array 𝓤 H A s T.the-row u32 320 0 h h (h .sequences) (h .sequences) (b, o) (look-at 𝓤 H A W s T.the-type T′.the-laws 0 0 refl refl (b, o) h (h .sequences, (h .pictures, tt)) refl))
+  part = λ 𝓤 H A W. part-cut 𝓤 H A W T.the-row (Array u32 224) 0 (λ t. t .sequences)
+      (λ s h b o. cut-array 𝓤 H A s T.the-row u32 224 0 h h (h .sequences) (h .sequences) (b, o) (look-at 𝓤 H A W s T.the-type T′.the-laws 0 0 refl refl (b, o) h (h .sequences, (h .pictures, tt)) refl))
       (halves 𝓤 H A W (cStruct T.the-type T′.the-laws T′.the-copy));
-  cut = λ 𝓤 H A W h ys b o. cut-array 𝓤 H A fullShare T.the-row u32 320 0 h (record { sequences = ys; pictures = h .pictures }) (h .sequences) ys (b, o)
+  cut = λ 𝓤 H A W h ys b o. cut-array 𝓤 H A fullShare T.the-row u32 224 0 h (record { sequences = ys; pictures = h .pictures }) (h .sequences) ys (b, o)
       (put-at 𝓤 H A W fullShare T.the-type T′.the-laws 0 0 refl refl (b, o) h (record { sequences = ys; pictures = h .pictures }) (h .sequences, (h .pictures, tt)) ys refl refl);
 }
 
 abbrev pub pictures-field : Field
 pictures-field = record {
-  size = 3328;
+  size = 2048;
   number = 1;
-  far = 1280;
+  far = 896;
   of = λ t. t .pictures;
   put = λ t ys. record { sequences = t .sequences; pictures = ys };
   lies = refl;
-  part = λ 𝓤 H A W. part-cut 𝓤 H A W T.the-row (Array u32 3328) 1280 (λ t. t .pictures)
-      (λ s h b o. cut-array 𝓤 H A s T.the-row u32 3328 1280 h h (h .pictures) (h .pictures) (b, o) (look-at 𝓤 H A W s T.the-type T′.the-laws 1 1280 refl refl (b, o) h (h .sequences, (h .pictures, tt)) refl))
+  part = λ 𝓤 H A W. part-cut 𝓤 H A W T.the-row (Array u32 2048) 896 (λ t. t .pictures)
+      (λ s h b o. cut-array 𝓤 H A s T.the-row u32 2048 896 h h (h .pictures) (h .pictures) (b, o) (look-at 𝓤 H A W s T.the-type T′.the-laws 1 896 refl refl (b, o) h (h .sequences, (h .pictures, tt)) refl))
       (halves 𝓤 H A W (cStruct T.the-type T′.the-laws T′.the-copy));
-  cut = λ 𝓤 H A W h ys b o. cut-array 𝓤 H A fullShare T.the-row u32 3328 1280 h (record { sequences = h .sequences; pictures = ys }) (h .pictures) ys (b, o)
-      (put-at 𝓤 H A W fullShare T.the-type T′.the-laws 1 1280 refl refl (b, o) h (record { sequences = h .sequences; pictures = ys }) (h .sequences, (h .pictures, tt)) ys refl refl);
+  cut = λ 𝓤 H A W h ys b o. cut-array 𝓤 H A fullShare T.the-row u32 2048 896 h (record { sequences = h .sequences; pictures = ys }) (h .pictures) ys (b, o)
+      (put-at 𝓤 H A W fullShare T.the-type T′.the-laws 1 896 refl refl (b, o) h (record { sequences = h .sequences; pictures = ys }) (h .sequences, (h .pictures, tt)) ys refl refl);
 }
 
 -- the array's row; the reference to it in a table at (b, o), under the name γ; and where it points

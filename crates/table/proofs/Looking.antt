@@ -1,10 +1,10 @@
 -- The words of an entry as the code reads them, one index at a time, and what the look-ups find in them.
-use mathlib.Core.Path.{_≡_, sym, ap, _∙_}
-use mathlib.Core.Bool.{Bool, true, false, and-false}
+use mathlib.Core.Path.{_≡_, refl, sym, ap, _∙_}
+use mathlib.Core.Bool.{Bool, true, false, _&&_, and-false, true≢false}
 use mathlib.Core.List.{List, [], _∷_}
 use Prim.Native.Nat.{ℕ, zero, suc, _+_, _*_, _≤_, _<_}
 use native.Mathlib.Omega.{arith}
-use borrow.Author.Tests.{le-leb, lt-leb}
+use borrow.Author.Tests.{le-leb, lt-leb, leb-true, leb-false}
 use lib.Dec.{leb, eqb, lit<}
 use lib.IntN.{ℤ, pos, negsuc, _-ℤ_}
 use lib.Signed.{leZ}
@@ -14,9 +14,9 @@ use Rattle.bits.specs.Refusals.{pick}
 use Rattle.table.specs.declared.sets.Picture.{Picture}
 use Rattle.table.specs.declared.words.FoundSequence.{FoundSequence}
 use Rattle.table.specs.declared.words.FoundPicture.{FoundPicture}
-use Rattle.table.specs.Sets.{all, pictureFits}
-use Rattle.table.specs.Tables.{sequenceOf, sequenceTests, sequenceEntry, sequenceIn, pictureOf, pictureTests, pictureEntry, pictureIn}
-use Rattle.table.proofs.Tests.{one-fails}
+use Rattle.table.specs.Sets.{between, all, pictureFits}
+use Rattle.table.specs.Tables.{flagIn, sequenceOf, sequenceTests, sequenceEntry, sequenceIn, pictureOf, pictureTests, pictureEntry, pictureIn}
+use Rattle.table.proofs.Tests.{both, one-fails, next, last}
 use Rattle.table.proofs.Signs.{lowered-high}
 
 -- ---- reading word by word
@@ -61,81 +61,106 @@ module _ {F : Type 0} (n last : ℕ) (tests : List ℕ → List Bool) (found : L
   look-read : look (suc n) last (entryBy tests found absent) absent t id ≡ entryBy tests found absent (entryAt t (id * suc n) n)
   look-read = rw (le-leb id last h) (same (drop (id * suc n) t) (entryAt t (id * suc n) n) (entry-word t (id * suc n) n))
 
-  pub look-none : (k : ℕ) → getD (tests (entryAt t (id * suc n) n)) k true ≡ false → look (suc n) last (entryBy tests found absent) absent t id ≡ absent
-  look-none k e = look-read ∙ rw (one-fails (tests (entryAt t (id * suc n) n)) k e)
+  pub look-none : all (tests (entryAt t (id * suc n) n)) ≡ false → look (suc n) last (entryBy tests found absent) absent t id ≡ absent
+  look-none e = look-read ∙ rw e
 
   pub look-there : all (tests (entryAt t (id * suc n) n)) ≡ true → look (suc n) last (entryBy tests found absent) absent t id ≡ found (entryAt t (id * suc n) n)
   look-there e = look-read ∙ rw e
 
 -- ---- sequence sets
 
-pub same-sequence : Local 10 sequenceEntry
+pub same-sequence : Local 7 sequenceEntry
 unfolding sequenceEntry sequenceOf
 same-sequence w v h =
     rw
-    (h 0 (lit< tt), h 1 (lit< tt), h 2 (lit< tt), h 3 (lit< tt), h 4 (lit< tt), h 5 (lit< tt), h 6 (lit< tt), h 7 (lit< tt), h 8 (lit< tt), h 9 (lit< tt))
+    (h 0 (lit< tt), h 1 (lit< tt), h 2 (lit< tt), h 3 (lit< tt), h 4 (lit< tt), h 5 (lit< tt), h 6 (lit< tt))
 
 pub sequence-past : (t : List ℕ) (id : ℕ) → 31 < id → sequenceIn t id ≡ FoundSequence.Absent
 unfolding sequenceIn
-sequence-past = look-past 10 31 sequenceEntry FoundSequence.Absent
+sequence-past = look-past 7 31 sequenceEntry FoundSequence.Absent
 
 module _ (t : List ℕ) (id : ℕ) (h : id ≤ 31) where
-  pub sequence-none : (k : ℕ) → getD (sequenceTests (entryAt t (id * 10) 9)) k true ≡ false → sequenceIn t id ≡ FoundSequence.Absent
+  pub sequence-none : all (sequenceTests (entryAt t (id * 7) 6)) ≡ false → sequenceIn t id ≡ FoundSequence.Absent
   unfolding sequenceIn sequenceEntry
-  sequence-none = look-none 9 31 sequenceTests (λ w. FoundSequence.There (sequenceOf w)) FoundSequence.Absent same-sequence t id h
+  sequence-none = look-none 6 31 sequenceTests (λ w. FoundSequence.There (sequenceOf w)) FoundSequence.Absent same-sequence t id h
 
-  pub sequence-there : all (sequenceTests (entryAt t (id * 10) 9)) ≡ true → sequenceIn t id ≡ FoundSequence.There (sequenceOf (entryAt t (id * 10) 9))
+  pub sequence-there : all (sequenceTests (entryAt t (id * 7) 6)) ≡ true → sequenceIn t id ≡ FoundSequence.There (sequenceOf (entryAt t (id * 7) 6))
   unfolding sequenceIn sequenceEntry
-  sequence-there = look-there 9 31 sequenceTests (λ w. FoundSequence.There (sequenceOf w)) FoundSequence.Absent same-sequence t id h
+  sequence-there = look-there 6 31 sequenceTests (λ w. FoundSequence.There (sequenceOf w)) FoundSequence.Absent same-sequence t id h
 
 -- ---- picture sets
 
-pub same-picture : Local 13 pictureEntry
+pub same-picture : Local 8 pictureEntry
 unfolding pictureEntry pictureOf
 same-picture w v h =
     rw
-    (h 0 (lit< tt), h 1 (lit< tt), h 2 (lit< tt), h 3 (lit< tt), h 4 (lit< tt), h 5 (lit< tt), h 6 (lit< tt), h 7 (lit< tt), h 8 (lit< tt), h 9 (lit< tt), h 10 (lit< tt), h 11 (lit< tt), h 12 (lit< tt))
+    (h 0 (lit< tt), h 1 (lit< tt), h 2 (lit< tt), h 3 (lit< tt), h 4 (lit< tt), h 5 (lit< tt), h 6 (lit< tt), h 7 (lit< tt))
 
 pub picture-past : (t : List ℕ) (id : ℕ) → 255 < id → pictureIn t id ≡ FoundPicture.Absent
 unfolding pictureIn
-picture-past = look-past 13 255 pictureEntry FoundPicture.Absent
+picture-past = look-past 8 255 pictureEntry FoundPicture.Absent
 
 module _ (t : List ℕ) (id : ℕ) (h : id ≤ 255) where
-  pub picture-none : (k : ℕ) → getD (pictureTests (entryAt t (id * 13) 12)) k true ≡ false → pictureIn t id ≡ FoundPicture.Absent
+  pub picture-none : all (pictureTests (entryAt t (id * 8) 7)) ≡ false → pictureIn t id ≡ FoundPicture.Absent
   unfolding pictureIn pictureEntry
-  picture-none = look-none 12 255 pictureTests (λ w. FoundPicture.There (pictureOf w)) FoundPicture.Absent same-picture t id h
+  picture-none = look-none 7 255 pictureTests (λ w. FoundPicture.There (pictureOf w)) FoundPicture.Absent same-picture t id h
 
-  pub picture-there : all (pictureTests (entryAt t (id * 13) 12)) ≡ true → pictureIn t id ≡ FoundPicture.There (pictureOf (entryAt t (id * 13) 12))
+  pub picture-there : all (pictureTests (entryAt t (id * 8) 7)) ≡ true → pictureIn t id ≡ FoundPicture.There (pictureOf (entryAt t (id * 8) 7))
   unfolding pictureIn pictureEntry
-  picture-there = look-there 12 255 pictureTests (λ w. FoundPicture.There (pictureOf w)) FoundPicture.Absent same-picture t id h
+  picture-there = look-there 7 255 pictureTests (λ w. FoundPicture.There (pictureOf w)) FoundPicture.Absent same-picture t id h
 
 -- the words' set, with the signed fields as they were made
 abbrev pub madePicture : List ℕ → ℤ → ℤ → Picture
 madePicture w qp qs =
     record {
       «seq_parameter_set_id» = getD w 1 0;
-      «entropy_coding_mode_flag» = eqb (getD w 2 0) 1;
-      «bottom_field_pic_order_in_frame_present_flag» = eqb (getD w 3 0) 1;
-      «num_ref_idx_l0_default_active_minus1» = getD w 4 0;
-      «num_ref_idx_l1_default_active_minus1» = getD w 5 0;
-      «weighted_pred_flag» = eqb (getD w 6 0) 1;
-      «weighted_bipred_idc» = getD w 7 0;
+      «entropy_coding_mode_flag» = flagIn 4 (getD w 0 0);
+      «bottom_field_pic_order_in_frame_present_flag» = flagIn 3 (getD w 0 0);
+      «num_ref_idx_l0_default_active_minus1» = getD w 2 0;
+      «num_ref_idx_l1_default_active_minus1» = getD w 3 0;
+      «weighted_pred_flag» = flagIn 2 (getD w 0 0);
+      «weighted_bipred_idc» = getD w 4 0;
       «pic_init_qp_minus26» = qp;
       «pic_init_qs_minus26» = qs;
-      «deblocking_filter_control_present_flag» = eqb (getD w 10 0) 1;
-      «redundant_pic_cnt_present_flag» = eqb (getD w 11 0) 1;
-      «slice_group_change_rate» = getD w 12 0;
+      «deblocking_filter_control_present_flag» = flagIn 1 (getD w 0 0);
+      «redundant_pic_cnt_present_flag» = flagIn 0 (getD w 0 0);
+      «slice_group_change_rate» = getD w 7 0;
     }
 
-pub made : (w : List ℕ) (qp qs : ℤ) → qp ≡ pos (getD w 8 0) -ℤ pos 62 → qs ≡ pos (getD w 9 0) -ℤ pos 26 → madePicture w qp qs ≡ pictureOf w
+pub made : (w : List ℕ) (qp qs : ℤ) → qp ≡ pos (getD w 5 0) -ℤ pos 62 → qs ≡ pos (getD w 6 0) -ℤ pos 26 → madePicture w qp qs ≡ pictureOf w
 unfolding pictureOf
 made w qp qs e f = rw (e, f)
 
 -- a word too large for its field
-pub qp-high : (w : List ℕ) → 87 < getD w 8 0 → pictureFits (pictureOf w) ≡ false
+qp-high : (w : List ℕ) → leb (getD w 5 0) 87 ≡ false → pictureFits (pictureOf w) ≡ false
 unfolding pictureFits pictureOf
-qp-high w h = one-fails _ 4 (rw (lowered-high (getD w 8 0) 62 h) (and-false (leZ (negsuc 61) (pos (getD w 8 0) -ℤ pos 62))))
+qp-high w h = one-fails _ 4 (rw (lowered-high (getD w 5 0) 62 (leb-false _ 87 h)) (and-false (leZ (negsuc 61) (pos (getD w 5 0) -ℤ pos 62))))
 
-pub qs-high : (w : List ℕ) → 51 < getD w 9 0 → pictureFits (pictureOf w) ≡ false
+qs-high : (w : List ℕ) → leb (getD w 6 0) 51 ≡ false → pictureFits (pictureOf w) ≡ false
 unfolding pictureFits pictureOf
-qs-high w h = one-fails _ 5 (rw (lowered-high (getD w 9 0) 26 h) (and-false (leZ (negsuc 25) (pos (getD w 9 0) -ℤ pos 26))))
+qs-high w h = one-fails _ 5 (rw (lowered-high (getD w 6 0) 26 (leb-false _ 51 h)) (and-false (leZ (negsuc 25) (pos (getD w 6 0) -ℤ pos 26))))
+
+-- the tests that are made before the signed fields are
+abbrev pub plausible : List ℕ → Bool
+plausible w = between 32 63 (getD w 0 0) && (leb (getD w 5 0) 87 && leb (getD w 6 0) 51)
+
+pub picture-unmade : (w : List ℕ) → plausible w ≡ false → all (pictureTests w) ≡ false
+picture-unmade w h = by (between 32 63 (getD w 0 0)) (leb (getD w 5 0) 87) (leb (getD w 6 0) 51) refl refl refl h
+  where
+    by : (a b c : Bool) → between 32 63 (getD w 0 0) ≡ a → leb (getD w 5 0) 87 ≡ b → leb (getD w 6 0) 51 ≡ c → a && (b && c) ≡ false → all (pictureTests w) ≡ false
+    by false b c ea eb ec h = one-fails _ 0 ea
+    by true false c ea eb ec h = one-fails _ 1 (qp-high w eb)
+    by true true false ea eb ec h = one-fails _ 1 (qs-high w ec)
+    by true true true ea eb ec h = absurd (true≢false h)
+
+-- and what they leave
+pub record Plausible (w : List ℕ) : Type 0 where
+  pub rest : all (pictureTests w) ≡ pictureFits (pictureOf w)
+  pub qp : getD w 5 0 ≤ 87
+  pub qs : getD w 6 0 ≤ 51
+
+pub picture-made : (w : List ℕ) → plausible w ≡ true → Plausible w
+picture-made w h =
+    let a = both (between 32 63 (getD w 0 0)) _ h in
+    let b = both (leb (getD w 5 0) 87) (leb (getD w 6 0) 51) (a .1) in
+    record { rest = next _ (a .0) ∙ last _; qp = leb-true _ 87 (b .0); qs = leb-true _ 51 (b .1) }

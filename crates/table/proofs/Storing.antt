@@ -14,7 +14,7 @@ use Rattle.table.specs.declared.sets.Picture.{Picture}
 use Rattle.table.specs.declared.sets.Sequence.{Sequence}
 use Rattle.table.specs.declared.words.Changed.{Changed}
 use Rattle.table.specs.Sets.{sequenceFits, pictureFits}
-use Rattle.table.specs.Tables.{Put, putWords, tableField, wordOf, sequenceWords, sequencePut, pictureWords, picturePut}
+use Rattle.table.specs.Tables.{Put, putWords, tableField, sequenceMarks, sequenceWords, sequencePut, pictureMarks, pictureWords, picturePut}
 
 abbrev storeFrom : List ℕ → ℕ → ℕ → List ℕ → List ℕ
 storeFrom t k j [] = t
@@ -60,47 +60,44 @@ module _ (last id : ℕ) (good : Bool) (t : List ℕ) (at : ℕ) (w : List ℕ) 
 module _ (t : List ℕ) (id : ℕ) (s : Sequence) where
   pub sequence-put-past : 31 < id → sequencePut t id s ≡ refused t
   unfolding sequencePut
-  sequence-put-past = put-past 31 id (sequenceFits s) t (id * 10) (sequenceWords s)
+  sequence-put-past = put-past 31 id (sequenceFits s) t (id * 7) (sequenceWords s)
 
   pub sequence-put-unfit : sequenceFits s ≡ false → sequencePut t id s ≡ refused t
   unfolding sequencePut
-  sequence-put-unfit = put-unfit 31 id (sequenceFits s) t (id * 10) (sequenceWords s)
+  sequence-put-unfit = put-unfit 31 id (sequenceFits s) t (id * 7) (sequenceWords s)
 
-  pub sequence-put-stored : id ≤ 31 → sequenceFits s ≡ true → (v : List ℕ) → 1 ∷ v ≡ sequenceWords s
-      → sequencePut t id s ≡ record { answer = Changed.Done; left = storeAt t (id * 10) 1 v }
+  pub sequence-put-stored : id ≤ 31 → sequenceFits s ≡ true → (m : ℕ) (v : List ℕ) → m ∷ v ≡ sequenceWords s
+      → sequencePut t id s ≡ record { answer = Changed.Done; left = storeAt t (id * 7) m v }
   unfolding sequencePut
-  sequence-put-stored h g = put-stored 31 id (sequenceFits s) t (id * 10) (sequenceWords s) h g 1
+  sequence-put-stored h g = put-stored 31 id (sequenceFits s) t (id * 7) (sequenceWords s) h g
 
--- the words, with each flag's as a call gives it
-pub sequence-words : (s : Sequence) {a b c : ℕ}
-    → a ≡ wordOf (s .«separate_colour_plane_flag») → b ≡ wordOf (s .«delta_pic_order_always_zero_flag») → c ≡ wordOf (s .«frame_mbs_only_flag»)
-    → 1 ∷ s .«chroma_format_idc» ∷ a ∷ s .«bit_depth_luma_minus8» ∷ s .«log2_max_frame_num» ∷ s .«pic_order_cnt_type» ∷ s .«log2_max_pic_order_cnt_lsb_minus4»
-    ∷ b ∷ c ∷ s .«pic_size_in_map_units» ∷ [] ≡ sequenceWords s
+-- the words, with the first as a call gives it
+pub sequence-words : (s : Sequence) {m : ℕ} → m ≡ sequenceMarks s
+    → m ∷ s .«chroma_format_idc» ∷ s .«bit_depth_luma_minus8» ∷ s .«log2_max_frame_num» ∷ s .«pic_order_cnt_type» ∷ s .«log2_max_pic_order_cnt_lsb_minus4»
+    ∷ s .«pic_size_in_map_units» ∷ [] ≡ sequenceWords s
 unfolding sequenceWords
-sequence-words s ea eb ec = rw (ea, eb, ec)
+sequence-words s em = rw em
 
 -- ---- picture sets
 
 module _ (t : List ℕ) (id : ℕ) (p : Picture) where
   pub picture-put-past : 255 < id → picturePut t id p ≡ refused t
   unfolding picturePut
-  picture-put-past = put-past 255 id (pictureFits p) t (id * 13) (pictureWords p)
+  picture-put-past = put-past 255 id (pictureFits p) t (id * 8) (pictureWords p)
 
   pub picture-put-unfit : pictureFits p ≡ false → picturePut t id p ≡ refused t
   unfolding picturePut
-  picture-put-unfit = put-unfit 255 id (pictureFits p) t (id * 13) (pictureWords p)
+  picture-put-unfit = put-unfit 255 id (pictureFits p) t (id * 8) (pictureWords p)
 
-  pub picture-put-stored : id ≤ 255 → pictureFits p ≡ true → (v : List ℕ) → 1 ∷ v ≡ pictureWords p
-      → picturePut t id p ≡ record { answer = Changed.Done; left = storeAt t (id * 13) 1 v }
+  pub picture-put-stored : id ≤ 255 → pictureFits p ≡ true → (m : ℕ) (v : List ℕ) → m ∷ v ≡ pictureWords p
+      → picturePut t id p ≡ record { answer = Changed.Done; left = storeAt t (id * 8) m v }
   unfolding picturePut
-  picture-put-stored h g = put-stored 255 id (pictureFits p) t (id * 13) (pictureWords p) h g 1
+  picture-put-stored h g = put-stored 255 id (pictureFits p) t (id * 8) (pictureWords p) h g
 
--- the words, with each flag's and each signed field's as a call gives it
-pub picture-words : (p : Picture) {a b c qp qs d e : ℕ}
-    → a ≡ wordOf (p .«entropy_coding_mode_flag») → b ≡ wordOf (p .«bottom_field_pic_order_in_frame_present_flag») → c ≡ wordOf (p .«weighted_pred_flag»)
-    → qp ≡ natAbs (p .«pic_init_qp_minus26» +ℤ pos 62) → qs ≡ natAbs (p .«pic_init_qs_minus26» +ℤ pos 26)
-    → d ≡ wordOf (p .«deblocking_filter_control_present_flag») → e ≡ wordOf (p .«redundant_pic_cnt_present_flag»)
-    → 1 ∷ p .«seq_parameter_set_id» ∷ a ∷ b ∷ p .«num_ref_idx_l0_default_active_minus1» ∷ p .«num_ref_idx_l1_default_active_minus1» ∷ c
-    ∷ p .«weighted_bipred_idc» ∷ qp ∷ qs ∷ d ∷ e ∷ p .«slice_group_change_rate» ∷ [] ≡ pictureWords p
+-- the words, with each signed field's as a call gives it
+pub picture-words : (p : Picture) {m qp qs : ℕ}
+    → m ≡ pictureMarks p → qp ≡ natAbs (p .«pic_init_qp_minus26» +ℤ pos 62) → qs ≡ natAbs (p .«pic_init_qs_minus26» +ℤ pos 26)
+    → m ∷ p .«seq_parameter_set_id» ∷ p .«num_ref_idx_l0_default_active_minus1» ∷ p .«num_ref_idx_l1_default_active_minus1»
+    ∷ p .«weighted_bipred_idc» ∷ qp ∷ qs ∷ p .«slice_group_change_rate» ∷ [] ≡ pictureWords p
 unfolding pictureWords
-picture-words p ea eb ec eqp eqs ed ee = rw (ea, eb, ec, eqp, eqs, ed, ee)
+picture-words p em eqp eqs = rw (em, eqp, eqs)

@@ -51,6 +51,11 @@ refuted e h = sym e ∙ not-true _ h
 pub held : {b r : Bool} → r ≡ b → not r ≡ false → b ≡ true
 held e h = sym e ∙ not-false _ h
 
+-- tests joined by calls
+pub two : {a b x y r : Bool} → r ≡ x && y → x ≡ a → y ≡ b → all (a ∷ b ∷ []) ≡ r
+unfolding all
+two {b = b} e f g = rw (e, f, g, and-true b)
+
 -- ---- the two orders
 
 not-lt : (a b : ℕ) → leb b a ≡ not (ltb a b)

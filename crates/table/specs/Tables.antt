@@ -1,12 +1,13 @@
 -- The parameter table: what an entry holds, looking up, and putting (document 01, 'Sizes').
-use Prim.Native.Nat.{ℕ, _*_}
+use Prim.Native.Nat.{ℕ, _*_, _/_, _%_, _^_}
 use mathlib.Core.List.{List, [], _∷_}
-use mathlib.Core.Bool.{Bool, _&&_}
+use mathlib.Core.Bool.{Bool, true, _&&_}
 use lib.Dec.{leb, eqb}
 use lib.IntN.{pos, natAbs, _+ℤ_, _-ℤ_}
 use lib.ListN.{getD, drop, replicate}
 use lib.Seq.{sets}
 use Rattle.bits.specs.Refusals.{pick, refusal}
+use Rattle.bits.specs.Bits.{numberOf}
 use Rattle.table.specs.declared.sets.Sequence.{Sequence}
 use Rattle.table.specs.declared.sets.Picture.{Picture}
 use Rattle.table.specs.declared.words.FoundSequence.{FoundSequence}
@@ -14,31 +15,30 @@ use Rattle.table.specs.declared.words.FoundPicture.{FoundPicture}
 use Rattle.table.specs.declared.words.Changed.{Changed}
 use Rattle.table.specs.declared.table.Table.{Table}
 use Rattle.table.specs.declared.table.WithTable.{WithTable}
-use Rattle.table.specs.Sets.{all, sequenceFits, pictureFits}
+use Rattle.table.specs.Sets.{between, all, sequenceFits, pictureFits}
 
 -- refusal 24: a table field out of range
 abbrev pub tableField : ℕ
 tableField = 24
 
--- ---- an entry's words: a mark, and the set's fields in order; a flag is 0 or 1, a signed field stands above its least value
+-- ---- an entry's words: first its flags, as binary digits behind a one, which is the entry's mark; then the other fields in order, a signed one above its least
+-- value
 
-abbrev pub wordOf : Bool → ℕ
-wordOf b = pick b 1 0
+-- the digit that stands k places from the right
+abbrev pub flagIn : ℕ → ℕ → Bool
+flagIn k w = eqb (w / 2 ^ k % 2) 1
 
-abbrev pub isFlag : ℕ → Bool
-isFlag w = leb w 1
+unfoldable pub sequenceMarks : Sequence → ℕ
+sequenceMarks s = numberOf (true ∷ s .«separate_colour_plane_flag» ∷ s .«delta_pic_order_always_zero_flag» ∷ s .«frame_mbs_only_flag» ∷ [])
 
 unfoldable pub sequenceWords : Sequence → List ℕ
 sequenceWords s =
-    1
+    sequenceMarks s
     ∷ s .«chroma_format_idc»
-    ∷ wordOf (s .«separate_colour_plane_flag»)
     ∷ s .«bit_depth_luma_minus8»
     ∷ s .«log2_max_frame_num»
     ∷ s .«pic_order_cnt_type»
     ∷ s .«log2_max_pic_order_cnt_lsb_minus4»
-    ∷ wordOf (s .«delta_pic_order_always_zero_flag»)
-    ∷ wordOf (s .«frame_mbs_only_flag»)
     ∷ s .«pic_size_in_map_units»
     ∷ []
 
@@ -46,30 +46,30 @@ unfoldable pub sequenceOf : List ℕ → Sequence
 sequenceOf w =
     record {
       «chroma_format_idc» = getD w 1 0;
-      «separate_colour_plane_flag» = eqb (getD w 2 0) 1;
-      «bit_depth_luma_minus8» = getD w 3 0;
-      «log2_max_frame_num» = getD w 4 0;
-      «pic_order_cnt_type» = getD w 5 0;
-      «log2_max_pic_order_cnt_lsb_minus4» = getD w 6 0;
-      «delta_pic_order_always_zero_flag» = eqb (getD w 7 0) 1;
-      «frame_mbs_only_flag» = eqb (getD w 8 0) 1;
-      «pic_size_in_map_units» = getD w 9 0;
+      «separate_colour_plane_flag» = flagIn 2 (getD w 0 0);
+      «bit_depth_luma_minus8» = getD w 2 0;
+      «log2_max_frame_num» = getD w 3 0;
+      «pic_order_cnt_type» = getD w 4 0;
+      «log2_max_pic_order_cnt_lsb_minus4» = getD w 5 0;
+      «delta_pic_order_always_zero_flag» = flagIn 1 (getD w 0 0);
+      «frame_mbs_only_flag» = flagIn 0 (getD w 0 0);
+      «pic_size_in_map_units» = getD w 6 0;
     }
+
+unfoldable pub pictureMarks : Picture → ℕ
+pictureMarks p =
+    numberOf
+    (true ∷ p .«entropy_coding_mode_flag» ∷ p .«bottom_field_pic_order_in_frame_present_flag» ∷ p .«weighted_pred_flag» ∷ p .«deblocking_filter_control_present_flag» ∷ p .«redundant_pic_cnt_present_flag» ∷ [])
 
 unfoldable pub pictureWords : Picture → List ℕ
 pictureWords p =
-    1
+    pictureMarks p
     ∷ p .«seq_parameter_set_id»
-    ∷ wordOf (p .«entropy_coding_mode_flag»)
-    ∷ wordOf (p .«bottom_field_pic_order_in_frame_present_flag»)
     ∷ p .«num_ref_idx_l0_default_active_minus1»
     ∷ p .«num_ref_idx_l1_default_active_minus1»
-    ∷ wordOf (p .«weighted_pred_flag»)
     ∷ p .«weighted_bipred_idc»
     ∷ natAbs (p .«pic_init_qp_minus26» +ℤ pos 62)
     ∷ natAbs (p .«pic_init_qs_minus26» +ℤ pos 26)
-    ∷ wordOf (p .«deblocking_filter_control_present_flag»)
-    ∷ wordOf (p .«redundant_pic_cnt_present_flag»)
     ∷ p .«slice_group_change_rate»
     ∷ []
 
@@ -77,52 +77,38 @@ unfoldable pub pictureOf : List ℕ → Picture
 pictureOf w =
     record {
       «seq_parameter_set_id» = getD w 1 0;
-      «entropy_coding_mode_flag» = eqb (getD w 2 0) 1;
-      «bottom_field_pic_order_in_frame_present_flag» = eqb (getD w 3 0) 1;
-      «num_ref_idx_l0_default_active_minus1» = getD w 4 0;
-      «num_ref_idx_l1_default_active_minus1» = getD w 5 0;
-      «weighted_pred_flag» = eqb (getD w 6 0) 1;
-      «weighted_bipred_idc» = getD w 7 0;
-      «pic_init_qp_minus26» = pos (getD w 8 0) -ℤ pos 62;
-      «pic_init_qs_minus26» = pos (getD w 9 0) -ℤ pos 26;
-      «deblocking_filter_control_present_flag» = eqb (getD w 10 0) 1;
-      «redundant_pic_cnt_present_flag» = eqb (getD w 11 0) 1;
-      «slice_group_change_rate» = getD w 12 0;
+      «entropy_coding_mode_flag» = flagIn 4 (getD w 0 0);
+      «bottom_field_pic_order_in_frame_present_flag» = flagIn 3 (getD w 0 0);
+      «num_ref_idx_l0_default_active_minus1» = getD w 2 0;
+      «num_ref_idx_l1_default_active_minus1» = getD w 3 0;
+      «weighted_pred_flag» = flagIn 2 (getD w 0 0);
+      «weighted_bipred_idc» = getD w 4 0;
+      «pic_init_qp_minus26» = pos (getD w 5 0) -ℤ pos 62;
+      «pic_init_qs_minus26» = pos (getD w 6 0) -ℤ pos 26;
+      «deblocking_filter_control_present_flag» = flagIn 1 (getD w 0 0);
+      «redundant_pic_cnt_present_flag» = flagIn 0 (getD w 0 0);
+      «slice_group_change_rate» = getD w 7 0;
     }
 
--- ---- looking up: an entry holds a set where its mark is 1, its flags are flags, and the set is within the ranges; any other counts as not there
+-- ---- looking up: an entry holds a set where its first word is the mark and flags, no more, and the set is within the ranges; any other counts as not there
 
 abbrev pub sequenceTests : List ℕ → List Bool
-sequenceTests w =
-    eqb (getD w 0 0) 1
-    ∷ isFlag (getD w 2 0)
-    ∷ isFlag (getD w 7 0)
-    ∷ isFlag (getD w 8 0)
-    ∷ sequenceFits (sequenceOf w)
-    ∷ []
+sequenceTests w = between 8 15 (getD w 0 0) ∷ sequenceFits (sequenceOf w) ∷ []
 
 unfoldable pub sequenceEntry : List ℕ → FoundSequence
 sequenceEntry w = pick (all (sequenceTests w)) (FoundSequence.There (sequenceOf w)) FoundSequence.Absent
 
 abbrev pub pictureTests : List ℕ → List Bool
-pictureTests w =
-    eqb (getD w 0 0) 1
-    ∷ isFlag (getD w 2 0)
-    ∷ isFlag (getD w 3 0)
-    ∷ isFlag (getD w 6 0)
-    ∷ isFlag (getD w 10 0)
-    ∷ isFlag (getD w 11 0)
-    ∷ pictureFits (pictureOf w)
-    ∷ []
+pictureTests w = between 32 63 (getD w 0 0) ∷ pictureFits (pictureOf w) ∷ []
 
 unfoldable pub pictureEntry : List ℕ → FoundPicture
 pictureEntry w = pick (all (pictureTests w)) (FoundPicture.There (pictureOf w)) FoundPicture.Absent
 
 unfoldable pub sequenceIn : List ℕ → ℕ → FoundSequence
-sequenceIn t id = pick (leb id 31) (sequenceEntry (drop (id * 10) t)) FoundSequence.Absent
+sequenceIn t id = pick (leb id 31) (sequenceEntry (drop (id * 7) t)) FoundSequence.Absent
 
 unfoldable pub pictureIn : List ℕ → ℕ → FoundPicture
-pictureIn t id = pick (leb id 255) (pictureEntry (drop (id * 13) t)) FoundPicture.Absent
+pictureIn t id = pick (leb id 255) (pictureEntry (drop (id * 8) t)) FoundPicture.Absent
 
 abbrev pub sequenceAt : Table → ℕ → FoundSequence
 sequenceAt t id = sequenceIn (t .sequences) id
@@ -142,10 +128,10 @@ putWords good t at w =
     pick good (record { answer = Changed.Done; left = sets t at w }) (record { answer = Changed.Refused (refusal tableField (pos 0) 0); left = t })
 
 unfoldable pub sequencePut : List ℕ → ℕ → Sequence → Put
-sequencePut t id s = putWords (leb id 31 && sequenceFits s) t (id * 10) (sequenceWords s)
+sequencePut t id s = putWords (leb id 31 && sequenceFits s) t (id * 7) (sequenceWords s)
 
 unfoldable pub picturePut : List ℕ → ℕ → Picture → Put
-picturePut t id p = putWords (leb id 255 && pictureFits p) t (id * 13) (pictureWords p)
+picturePut t id p = putWords (leb id 255 && pictureFits p) t (id * 8) (pictureWords p)
 
 abbrev pub putSequence : Table → ℕ → Sequence → WithTable
 putSequence t id s =
@@ -157,4 +143,4 @@ putPicture t id p =
 
 -- the table starts empty
 abbrev pub emptyTable : Table
-emptyTable = record { sequences = replicate 320 0; pictures = replicate 3328 0 }
+emptyTable = record { sequences = replicate 224 0; pictures = replicate 2048 0 }

@@ -1,4 +1,5 @@
 // The parameter sets, as far as slice headers need them, and document 01's ranges ('Sizes').
+ghost use mathlib.Core.Bool.{_&&_};
 ghost use mathlib.Core.Path.{_≡_};
 ghost use Rattle.table.specs.Sets.{between, betweenZ, planesFit, sequenceFits, pictureFits};
 
@@ -33,8 +34,15 @@ pub struct Picture {
     pub slice_group_change_rate: u32,
 }
 
+// Both hold. The tests of a set are one condition, so that a look-up has one branch for them.
+pub(crate) fn both(a: bool, b: bool) -> bool
+    ensures { λ r. ⌜ r ≡ a && b ⌝ }
+{
+    if a { b } else { false }
+}
+
 // Whether a number is from `low` to `high`.
-fn within(low: u32, high: u32, n: u32) -> bool
+pub(crate) fn within(low: u32, high: u32, n: u32) -> bool
     ensures { λ r. ⌜ r ≡ between low high n ⌝ }
 {
     if n < low {
@@ -66,47 +74,47 @@ fn planes_fit(separate: bool, chroma: u32) -> bool
 pub fn sequence_fits(s: Sequence) -> bool
     ensures { λ r. ⌜ r ≡ sequenceFits s ⌝ }
 {
-    if !within(0, 3, s.chroma_format_idc) {
-        return false;
-    }
-    if !planes_fit(s.separate_colour_plane_flag, s.chroma_format_idc) {
-        return false;
-    }
-    if !within(0, 6, s.bit_depth_luma_minus8) {
-        return false;
-    }
-    if !within(4, 16, s.log2_max_frame_num) {
-        return false;
-    }
-    if !within(0, 2, s.pic_order_cnt_type) {
-        return false;
-    }
-    if !within(0, 12, s.log2_max_pic_order_cnt_lsb_minus4) {
-        return false;
-    }
-    within(1, 16_777_216, s.pic_size_in_map_units)
+    both(
+        within(0, 3, s.chroma_format_idc),
+        both(
+            planes_fit(s.separate_colour_plane_flag, s.chroma_format_idc),
+            both(
+                within(0, 6, s.bit_depth_luma_minus8),
+                both(
+                    within(4, 16, s.log2_max_frame_num),
+                    both(
+                        within(0, 2, s.pic_order_cnt_type),
+                        both(
+                            within(0, 12, s.log2_max_pic_order_cnt_lsb_minus4),
+                            within(1, 16_777_216, s.pic_size_in_map_units),
+                        ),
+                    ),
+                ),
+            ),
+        ),
+    )
 }
 
 pub fn picture_fits(p: Picture) -> bool
     ensures { λ r. ⌜ r ≡ pictureFits p ⌝ }
 {
-    if !within(0, 31, p.seq_parameter_set_id) {
-        return false;
-    }
-    if !within(0, 31, p.num_ref_idx_l0_default_active_minus1) {
-        return false;
-    }
-    if !within(0, 31, p.num_ref_idx_l1_default_active_minus1) {
-        return false;
-    }
-    if !within(0, 2, p.weighted_bipred_idc) {
-        return false;
-    }
-    if !within_signed(-62, 25, p.pic_init_qp_minus26) {
-        return false;
-    }
-    if !within_signed(-26, 25, p.pic_init_qs_minus26) {
-        return false;
-    }
-    within(0, 16_777_216, p.slice_group_change_rate)
+    both(
+        within(0, 31, p.seq_parameter_set_id),
+        both(
+            within(0, 31, p.num_ref_idx_l0_default_active_minus1),
+            both(
+                within(0, 31, p.num_ref_idx_l1_default_active_minus1),
+                both(
+                    within(0, 2, p.weighted_bipred_idc),
+                    both(
+                        within_signed(-62, 25, p.pic_init_qp_minus26),
+                        both(
+                            within_signed(-26, 25, p.pic_init_qs_minus26),
+                            within(0, 16_777_216, p.slice_group_change_rate),
+                        ),
+                    ),
+                ),
+            ),
+        ),
+    )
 }

@@ -13,8 +13,8 @@ ghost use Rattle.table.specs.Tables.{emptyTable, sequenceAt, pictureAt, 
 
 #[repr(C)]
 pub struct Table {
-    pub sequences: [u32; 320],
-    pub pictures: [u32; 3328],
+    pub sequences: [u32; 224],
+    pub pictures: [u32; 2048],
 }
 
 // A table's answer beside the table, where it goes by value.
@@ -28,8 +28,8 @@ pub fn empty() -> Table
     ensures { λ r. ⌜ r ≡ emptyTable ⌝ }
 {
     Table {
-        sequences: [0; 320],
-        pictures: [0; 3328],
+        sequences: [0; 224],
+        pictures: [0; 2048],
     }
 }
 

@@ -22,8 +22,8 @@ ghost use Rattle.unit.specs.Unit.{inBody, sliceBits, prefixBits, unitRea
 
 // The body of a slice, which goes to scratch.
 fn read_slice<'a>(
-    sequences: &'a [u32; 320],
-    pictures: &'a [u32; 3328],
+    sequences: &'a [u32; 224],
+    pictures: &'a [u32; 2048],
     unit: &[u8],
     scratch: &mut [u8],
     kind: UnitKind,
@@ -51,8 +51,8 @@ fn read_prefix(unit: &[u8], scratch: &mut [u8], there: bool) -> UnitRead
 
 // A unit read by the sets in a table's two arrays. Until the body is known to fit, scratch is untouched; after that it starts with the body, whatever the answer.
 pub fn read_unit_in<'a>(
-    sequences: &'a [u32; 320],
-    pictures: &'a [u32; 3328],
+    sequences: &'a [u32; 224],
+    pictures: &'a [u32; 2048],
     unit: &[u8],
     scratch: &mut [u8],
 ) -> UnitRead

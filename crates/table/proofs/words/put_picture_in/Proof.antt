@@ -1,13 +1,14 @@
-use borrow.Author.Needs.{needs}
 use lib.Dec.{lit≤}
 use mir.Facts.{toZ-ofZ}
 use mir.Syntax.{w32}
 use mir.Val.{SFits}
 use Rattle.table.proofs.Tests.{refuted, held}
-use Rattle.table.proofs.Ranges.{PictureRanges, picture-ranges}
+use Rattle.table.proofs.Ranges.{picture-ranges}
 use Rattle.table.proofs.Storing.{parts, picture-put-past, picture-put-unfit, picture-put-stored, picture-words}
+use borrow.Author.Needs.{needs}
 use Rattle.table.proofs.words.put_picture_in.Statement.{statement}
 use Rattle.table.proofs.words.put_picture_in.Tie as tie
+use Rattle.bits.proofs.refusals.refuse.Reads as refuse-reads
 
 refuse-requires : tie.Need-refuse-requires
 refuse-requires c κs = search needs
@@ -23,6 +24,9 @@ refuse-requires-2 c κs = search needs
 
 returns-2 : tie.Need-returns-2
 returns-2 c = rw (c .refuse2 .ensures) (parts (picture-put-unfit _ _ _ (refuted (c .before .before .picture-fits .ensures) (c .before .if2 .taken))))
+
+picture-marks-requires : tie.Need-picture-marks-requires
+picture-marks-requires c κs = search needs
 
 mul-k : tie.Need-mul-k
 mul-k c = search needs
@@ -45,9 +49,6 @@ mul-t-2 c = search needs
 element-write-t-2 : tie.Need-element-write-t-2
 element-write-t-2 c = search needs
 
-word-requires : tie.Need-word-requires
-word-requires c κs = search needs
-
 add-t-2 : tie.Need-add-t-2
 add-t-2 c = search needs
 
@@ -56,9 +57,6 @@ mul-t-3 c = search needs
 
 element-write-t-3 : tie.Need-element-write-t-3
 element-write-t-3 c = search needs
-
-word-requires-2 : tie.Need-word-requires-2
-word-requires-2 c κs = search needs
 
 add-t-3 : tie.Need-add-t-3
 add-t-3 c = search needs
@@ -78,6 +76,9 @@ mul-t-5 c = search needs
 element-write-t-5 : tie.Need-element-write-t-5
 element-write-t-5 c = search needs
 
+raised-requires : tie.Need-raised-requires
+raised-requires c κs = let f : SFits w32 (c .before .before .before .before .before .args .p .«pic_init_qp_minus26») = search needs in rw (toZ-ofZ f) (picture-ranges _ (held (c .before .before .before .picture-fits .ensures) (c .before .before .if2 .left)) .qp, lit≤ tt)
+
 add-t-5 : tie.Need-add-t-5
 add-t-5 c = search needs
 
@@ -87,8 +88,8 @@ mul-t-6 c = search needs
 element-write-t-6 : tie.Need-element-write-t-6
 element-write-t-6 c = search needs
 
-word-requires-3 : tie.Need-word-requires-3
-word-requires-3 c κs = search needs
+raised-requires-2 : tie.Need-raised-requires-2
+raised-requires-2 c κs = let f : SFits w32 (c .before .before .before .before .before .before .before .args .p .«pic_init_qs_minus26») = search needs in rw (toZ-ofZ f) (picture-ranges _ (held (c .before .before .before .before .before .picture-fits .ensures) (c .before .before .before .before .if2 .left)) .qs, lit≤ tt)
 
 add-t-6 : tie.Need-add-t-6
 add-t-6 c = search needs
@@ -108,73 +109,13 @@ mul-t-8 c = search needs
 element-write-t-8 : tie.Need-element-write-t-8
 element-write-t-8 c = search needs
 
-ranges : (c : tie.Else2) → PictureRanges (c .before .before .before .args .p)
-ranges c = picture-ranges _ (held (c .before .picture-fits .ensures) (c .if2 .left))
-
-raised-requires : tie.Need-raised-requires
-raised-requires c κs = let f : SFits w32 (c .before .before .before .before .before .before .before .args .p .«pic_init_qp_minus26») = search needs in rw (toZ-ofZ f) (ranges (c .before .before .before .before) .qp, lit≤ tt)
-
-add-t-8 : tie.Need-add-t-8
-add-t-8 c = search needs
-
-mul-t-9 : tie.Need-mul-t-9
-mul-t-9 c = search needs
-
-element-write-t-9 : tie.Need-element-write-t-9
-element-write-t-9 c = search needs
-
-raised-requires-2 : tie.Need-raised-requires-2
-raised-requires-2 c κs = let f : SFits w32 (c .before .before .before .before .before .before .before .before .before .args .p .«pic_init_qs_minus26») = search needs in rw (toZ-ofZ f) (ranges (c .before .before .before .before .before .before) .qs, lit≤ tt)
-
-add-t-9 : tie.Need-add-t-9
-add-t-9 c = search needs
-
-mul-t-10 : tie.Need-mul-t-10
-mul-t-10 c = search needs
-
-element-write-t-10 : tie.Need-element-write-t-10
-element-write-t-10 c = search needs
-
-word-requires-4 : tie.Need-word-requires-4
-word-requires-4 c κs = search needs
-
-add-t-10 : tie.Need-add-t-10
-add-t-10 c = search needs
-
-mul-t-11 : tie.Need-mul-t-11
-mul-t-11 c = search needs
-
-element-write-t-11 : tie.Need-element-write-t-11
-element-write-t-11 c = search needs
-
-word-requires-5 : tie.Need-word-requires-5
-word-requires-5 c κs = search needs
-
-add-t-11 : tie.Need-add-t-11
-add-t-11 c = search needs
-
-mul-t-12 : tie.Need-mul-t-12
-mul-t-12 c = search needs
-
-element-write-t-12 : tie.Need-element-write-t-12
-element-write-t-12 c = search needs
-
-add-t-12 : tie.Need-add-t-12
-add-t-12 c = search needs
-
-mul-t-13 : tie.Need-mul-t-13
-mul-t-13 c = search needs
-
-element-write-t-13 : tie.Need-element-write-t-13
-element-write-t-13 c = search needs
-
 returns-3 : tie.Need-returns-3
 returns-3 c =
-    let qp : SFits w32 (c .before .before .before .before .before .before .before .before .before .before .before .before .args .p .«pic_init_qp_minus26») = search needs in
-    let qs : SFits w32 (c .before .before .before .before .before .before .before .before .before .before .before .before .args .p .«pic_init_qs_minus26») = search needs in
+    let qp : SFits w32 (c .before .before .before .before .before .before .before .before .args .p .«pic_init_qp_minus26») = search needs in
+    let qs : SFits w32 (c .before .before .before .before .before .before .before .before .args .p .«pic_init_qs_minus26») = search needs in
     parts
-    (picture-put-stored _ _ _ (c .before .before .before .before .before .before .before .before .before .before .before .if1 .left) (held (c .before .before .before .before .before .before .before .before .before .before .picture-fits .ensures) (c .before .before .before .before .before .before .before .before .before .if2 .left)) _
-    (picture-words _ (c .before .before .before .before .before .before .before .before .word .ensures) (c .before .before .before .before .before .before .before .word2 .ensures) (c .before .before .before .before .before .before .word3 .ensures) (rw (toZ-ofZ qp) at (c .before .before .before .before .raised .ensures)) (rw (toZ-ofZ qs) at (c .before .before .raised2 .ensures)) (c .before .word4 .ensures) (c .word5 .ensures)))
+    (picture-put-stored _ _ _ (c .before .before .before .before .before .before .before .if1 .left) (held (c .before .before .before .before .before .before .picture-fits .ensures) (c .before .before .before .before .before .if2 .left)) _ _
+    (picture-words _ (c .before .before .before .before .picture-marks .ensures) (rw (toZ-ofZ qp) at (c .before .before .raised .ensures)) (rw (toZ-ofZ qs) at (c .raised2 .ensures))))
 
 pub put-picture-in-spec : {M : Type 1} → statement M
 put-picture-in-spec =
@@ -185,6 +126,7 @@ put-picture-in-spec =
     picture-fits-requires
     refuse-requires-2
     returns-2
+    picture-marks-requires
     mul-k
     cast-i
     mul-t
@@ -192,44 +134,24 @@ put-picture-in-spec =
     add-t
     mul-t-2
     element-write-t-2
-    word-requires
     add-t-2
     mul-t-3
     element-write-t-3
-    word-requires-2
     add-t-3
     mul-t-4
     element-write-t-4
     add-t-4
     mul-t-5
     element-write-t-5
+    raised-requires
     add-t-5
     mul-t-6
     element-write-t-6
-    word-requires-3
+    raised-requires-2
     add-t-6
     mul-t-7
     element-write-t-7
     add-t-7
     mul-t-8
     element-write-t-8
-    raised-requires
-    add-t-8
-    mul-t-9
-    element-write-t-9
-    raised-requires-2
-    add-t-9
-    mul-t-10
-    element-write-t-10
-    word-requires-4
-    add-t-10
-    mul-t-11
-    element-write-t-11
-    word-requires-5
-    add-t-11
-    mul-t-12
-    element-write-t-12
-    add-t-12
-    mul-t-13
-    element-write-t-13
     returns-3)

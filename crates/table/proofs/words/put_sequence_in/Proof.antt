@@ -1,8 +1,9 @@
-use borrow.Author.Needs.{needs}
 use Rattle.table.proofs.Tests.{refuted, held}
 use Rattle.table.proofs.Storing.{parts, sequence-put-past, sequence-put-unfit, sequence-put-stored, sequence-words}
+use borrow.Author.Needs.{needs}
 use Rattle.table.proofs.words.put_sequence_in.Statement.{statement}
 use Rattle.table.proofs.words.put_sequence_in.Tie as tie
+use Rattle.bits.proofs.refusals.refuse.Reads as refuse-reads
 
 refuse-requires : tie.Need-refuse-requires
 refuse-requires c κs = search needs
@@ -18,6 +19,9 @@ refuse-requires-2 c κs = search needs
 
 returns-2 : tie.Need-returns-2
 returns-2 c = rw (c .refuse2 .ensures) (parts (sequence-put-unfit _ _ _ (refuted (c .before .before .sequence-fits .ensures) (c .before .if2 .taken))))
+
+sequence-marks-requires : tie.Need-sequence-marks-requires
+sequence-marks-requires c κs = search needs
 
 mul-k : tie.Need-mul-k
 mul-k c = search needs
@@ -39,9 +43,6 @@ mul-t-2 c = search needs
 
 element-write-t-2 : tie.Need-element-write-t-2
 element-write-t-2 c = search needs
-
-word-requires : tie.Need-word-requires
-word-requires c κs = search needs
 
 add-t-2 : tie.Need-add-t-2
 add-t-2 c = search needs
@@ -88,41 +89,8 @@ mul-t-7 c = search needs
 element-write-t-7 : tie.Need-element-write-t-7
 element-write-t-7 c = search needs
 
-word-requires-2 : tie.Need-word-requires-2
-word-requires-2 c κs = search needs
-
-add-t-7 : tie.Need-add-t-7
-add-t-7 c = search needs
-
-mul-t-8 : tie.Need-mul-t-8
-mul-t-8 c = search needs
-
-element-write-t-8 : tie.Need-element-write-t-8
-element-write-t-8 c = search needs
-
-word-requires-3 : tie.Need-word-requires-3
-word-requires-3 c κs = search needs
-
-add-t-8 : tie.Need-add-t-8
-add-t-8 c = search needs
-
-mul-t-9 : tie.Need-mul-t-9
-mul-t-9 c = search needs
-
-element-write-t-9 : tie.Need-element-write-t-9
-element-write-t-9 c = search needs
-
-add-t-9 : tie.Need-add-t-9
-add-t-9 c = search needs
-
-mul-t-10 : tie.Need-mul-t-10
-mul-t-10 c = search needs
-
-element-write-t-10 : tie.Need-element-write-t-10
-element-write-t-10 c = search needs
-
 returns-3 : tie.Need-returns-3
-returns-3 c = parts (sequence-put-stored _ _ _ (c .before .before .before .before .before .if1 .left) (held (c .before .before .before .before .sequence-fits .ensures) (c .before .before .before .if2 .left)) _ (sequence-words _ (c .before .before .word .ensures) (c .before .word2 .ensures) (c .word3 .ensures)))
+returns-3 c = parts (sequence-put-stored _ _ _ (c .before .before .before .if1 .left) (held (c .before .before .sequence-fits .ensures) (c .before .if2 .left)) _ _ (sequence-words _ (c .sequence-marks .ensures)))
 
 pub put-sequence-in-spec : {M : Type 1} → statement M
 put-sequence-in-spec =
@@ -133,6 +101,7 @@ put-sequence-in-spec =
     sequence-fits-requires
     refuse-requires-2
     returns-2
+    sequence-marks-requires
     mul-k
     cast-i
     mul-t
@@ -140,7 +109,6 @@ put-sequence-in-spec =
     add-t
     mul-t-2
     element-write-t-2
-    word-requires
     add-t-2
     mul-t-3
     element-write-t-3
@@ -156,15 +124,4 @@ put-sequence-in-spec =
     add-t-6
     mul-t-7
     element-write-t-7
-    word-requires-2
-    add-t-7
-    mul-t-8
-    element-write-t-8
-    word-requires-3
-    add-t-8
-    mul-t-9
-    element-write-t-9
-    add-t-9
-    mul-t-10
-    element-write-t-10
     returns-3)
