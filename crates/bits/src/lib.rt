@@ -3,5 +3,5 @@ pub mod refusals; // document 01's numbers, and the one place where a refusal is
 pub mod read; // reads at a cursor
 pub mod put; // writes at a cursor
 pub mod width; // how wide slice_group_change_cycle is
-mod window; // 64 bits of a slice at once
+pub mod window; // the bytes whose bits have a place, and 64 bits of a slice at once
 mod fill; // bits into a slice, a byte at a time

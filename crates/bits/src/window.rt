@@ -8,8 +8,8 @@ ghost use Rattle.bits.specs.Windows.{bitsAt};
 // The bytes whose bits have a place: all of them, for any slice that fits in a machine.
 const REACH: usize = 2_305_843_009_213_693_951;
 
-// The part of a slice whose bits have a place.
-pub(crate) fn within(s: &[u8]) -> &[u8]
+// The part of a slice whose bits have a place: the bytes whose bits `bitsOf` has.
+pub fn within(s: &[u8]) -> &[u8]
     ensures { λ r. ⌜ now r ≡ take reach (now (s .entry)) ⌝ }
 {
     let n = reached(s.len());

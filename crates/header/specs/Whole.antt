@@ -1,8 +1,8 @@
 -- The answer of reading a header: its record and where it ends; or no header, and the refusal.
 use mathlib.Core.Bool.{false}
 use lib.IntN.{pos}
-use Rattle.bits.specs.Refusals.{Res, got, no}
-use Rattle.codes.specs.declared.step.End.{End}
+use Rattle.bits.specs.Refusals.{Res}
+use Rattle.codes.specs.Steps.{beside}
 use Rattle.syntax.specs.declared.record.SliceHeader.{SliceHeader}
 use Rattle.syntax.specs.Lists.{noOperations}
 use Rattle.syntax.specs.Sample.{noNumber, noSigned, noFlag, noModification, noWeights}
@@ -59,5 +59,4 @@ noHeader =
     }
 
 abbrev pub headerAnswer : Res SliceHeader → HeaderRead
-headerAnswer (got h e) = record { header = h; end = End.At (record { at = e }) }
-headerAnswer (no r) = record { header = noHeader; end = End.Refused r }
+headerAnswer = beside (λ a e. record { header = a; end = e }) noHeader

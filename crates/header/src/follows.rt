@@ -1,26 +1,10 @@
 // What must follow a header: a set bit strictly after the bit at the place where the header ends.
+use bits::window::within;
 ghost use mathlib.Core.Path.{_≡_};
-ghost use Prim.Native.Nat.{_+_, _≤_, _<_};
-ghost use lib.ListN.{take, drop};
-ghost use Rattle.bits.specs.Bits.{reach, bitsOf, bytesBits};
+ghost use Prim.Native.Nat.{_+_};
+ghost use lib.ListN.{drop};
+ghost use Rattle.bits.specs.Bits.{bitsOf, bytesBits};
 ghost use Rattle.syntax.specs.SliceHeader.{anySet};
-
-// The bytes whose bits have a place: all of them, for any slice that fits in a machine.
-const REACH: usize = 2_305_843_009_213_693_951;
-
-fn reached(n: usize) -> usize
-    ensures { λ r. ⌜ (r ≤ n) × (r ≤ reach) × (r < reach → r ≡ n) ⌝ }
-{
-    if n < REACH { n } else { REACH }
-}
-
-// The part of a slice whose bits have a place.
-fn within(s: &[u8]) -> &[u8]
-    ensures { λ r. ⌜ now r ≡ take reach (now (s .entry)) ⌝ }
-{
-    let n = reached(s.len());
-    &s[..n]
-}
 
 // Whether a byte from `from` on is not zero.
 fn any_from(s: &[u8], from: usize) -> bool

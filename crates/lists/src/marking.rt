@@ -17,9 +17,9 @@ use syntax::record::DecRefPicMarking;
 ghost use mathlib.Core.Path.{_≡_};
 ghost use Rattle.bits.specs.Bits.{bitsOf};
 ghost use Rattle.syntax.specs.SliceHeader.{markingKind, decRefPicMarking};
-ghost use Rattle.codes.specs.Steps.{asEnd};
 ghost use Rattle.lists.specs.Kinds.{kindOf};
 ghost use Rattle.lists.specs.Absent.{noMarking};
+ghost use Rattle.lists.specs.Answers.{markingAnswer};
 
 pub struct MarkingRead {
     pub marking: DecRefPicMarking,
@@ -63,7 +63,7 @@ fn refused(r: Refusal) -> MarkingRead
 }
 
 pub fn dec_ref_pic_marking(s: &[u8], c: Cursor, x: Context) -> MarkingRead
-    ensures { λ r. ⌜ asEnd (r .end) (r .marking) ≡ decRefPicMarking x .read (bitsOf (now (s .entry))) (c .at) ⌝ }
+    ensures { λ r. ⌜ r ≡ markingAnswer (decRefPicMarking x .read (bitsOf (now (s .entry))) (c .at)) ⌝ }
 {
     let idr = both(x.kind.reference, x.kind.idr);
     let a1 = flag_if(s, c, idr);

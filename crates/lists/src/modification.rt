@@ -22,9 +22,9 @@ ghost use mathlib.Core.Path.{_≡_};
 ghost use Rattle.bits.specs.Bits.{bitsOf};
 ghost use Rattle.bits.specs.Refusals.{pick};
 ghost use Rattle.syntax.specs.SliceHeader.{modificationKind, modification, modifications};
-ghost use Rattle.codes.specs.Steps.{asEnd};
 ghost use Rattle.lists.specs.Kinds.{kindOf};
 ghost use Rattle.lists.specs.Absent.{noModification, noModifications};
+ghost use Rattle.lists.specs.Answers.{modificationAnswer, modificationsAnswer};
 
 pub struct ModificationRead {
     pub list: Modification,
@@ -78,7 +78,7 @@ fn refused(r: Refusal) -> ModificationRead
 
 // One list, there only under a condition.
 pub fn modification_if(s: &[u8], c: Cursor, there: bool, mvc: bool) -> ModificationRead
-    ensures { λ r. ⌜ asEnd (r .end) (r .list) ≡ modification mvc there .read (bitsOf (now (s .entry))) (c .at) ⌝ }
+    ensures { λ r. ⌜ r ≡ modificationAnswer (modification mvc there .read (bitsOf (now (s .entry))) (c .at)) ⌝ }
 {
     let a1 = flag_if(s, c, there);
     let FlagStep::Got(flag, c1) = a1 else {
@@ -110,7 +110,7 @@ fn both_refused(r: Refusal) -> ModificationsRead
 
 // Both lists. A scalable slice is refused where they would begin.
 pub fn modifications(s: &[u8], c: Cursor, x: Context, slice_type: u32) -> ModificationsRead
-    ensures { λ r. ⌜ asEnd (r .end) (r .lists) ≡ modifications x «slice_type» .read (bitsOf (now (s .entry))) (c .at) ⌝ }
+    ensures { λ r. ⌜ r ≡ modificationsAnswer (modifications x «slice_type» .read (bitsOf (now (s .entry))) (c .at)) ⌝ }
 {
     let a1 = not_scalable(c, x);
     let End::At(c1) = a1 else {

@@ -12,8 +12,8 @@ use syntax::record::Operations;
 ghost use mathlib.Core.Path.{_≡_};
 ghost use Rattle.bits.specs.Bits.{bitsOf};
 ghost use Rattle.syntax.specs.Lists.{noOperations, operations, operationsIf};
-ghost use Rattle.codes.specs.Steps.{asEnd};
 ghost use Rattle.lists.specs.Kinds.{kindOf};
+ghost use Rattle.lists.specs.Answers.{operationsAnswer};
 
 // What tells one list's syntax from another's.
 pub struct ListKind {
@@ -68,7 +68,7 @@ fn refused(r: Refusal) -> OperationsRead
 
 // The list at a cursor: each code is tested, and one too many is refused before its operands are read.
 pub fn operations(s: &[u8], c: Cursor, kind: ListKind) -> OperationsRead
-    ensures { λ r. ⌜ asEnd (r .end) (r .list) ≡ operations (kindOf kind) .read (bitsOf (now (s .entry))) (c .at) ⌝ }
+    ensures { λ r. ⌜ r ≡ operationsAnswer (operations (kindOf kind) .read (bitsOf (now (s .entry))) (c .at)) ⌝ }
 {
     let mut codes = [0u32; 66];
     let mut first = [0u32; 66];
@@ -115,7 +115,7 @@ pub fn operations(s: &[u8], c: Cursor, kind: ListKind) -> OperationsRead
 
 // A list that is there only under a condition.
 pub fn operations_if(s: &[u8], c: Cursor, there: bool, kind: ListKind) -> OperationsRead
-    ensures { λ r. ⌜ asEnd (r .end) (r .list) ≡ operationsIf there (kindOf kind) .read (bitsOf (now (s .entry))) (c .at) ⌝ }
+    ensures { λ r. ⌜ r ≡ operationsAnswer (operationsIf there (kindOf kind) .read (bitsOf (now (s .entry))) (c .at)) ⌝ }
 {
     if there {
         operations(s, c, kind)

@@ -15,9 +15,9 @@ use syntax::record::Prefix;
 ghost use mathlib.Core.Path.{_≡_};
 ghost use Rattle.bits.specs.Bits.{bitsOf};
 ghost use Rattle.syntax.specs.Prefix.{baseMarkingKind, prefix};
-ghost use Rattle.codes.specs.Steps.{asEnd};
 ghost use Rattle.lists.specs.Kinds.{kindOf};
 ghost use Rattle.lists.specs.Absent.{noPrefix};
+ghost use Rattle.lists.specs.Answers.{bodyAnswer};
 
 pub struct PrefixRead {
     pub body: Prefix,
@@ -61,7 +61,7 @@ fn refused(r: Refusal) -> PrefixRead
 
 // The body of a prefix unit, there only under a condition.
 pub fn prefix(s: &[u8], c: Cursor, there: bool) -> PrefixRead
-    ensures { λ r. ⌜ asEnd (r .end) (r .body) ≡ prefix there .read (bitsOf (now (s .entry))) (c .at) ⌝ }
+    ensures { λ r. ⌜ r ≡ bodyAnswer (prefix there .read (bitsOf (now (s .entry))) (c .at)) ⌝ }
 {
     let a1 = flag_if(s, c, there);
     let FlagStep::Got(store, c1) = a1 else {

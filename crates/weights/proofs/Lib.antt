@@ -1,3 +1,4 @@
+pub mod Ends
 pub mod Filled
 pub mod Joined
 pub mod Tables

@@ -10,9 +10,9 @@ use syntax::record::WeightList;
 ghost use mathlib.Core.Path.{_≡_};
 ghost use lib.ListN.{replicate};
 ghost use Rattle.bits.specs.Bits.{bitsOf};
-ghost use Rattle.codes.specs.Steps.{asEnd};
 ghost use Rattle.syntax.specs.SliceHeader.{noWeight, weightList};
 ghost use Rattle.weights.specs.Counts.{atMost32, noWeights};
+ghost use Rattle.weights.specs.Steps.{weightListAnswer};
 
 pub struct WeightListRead {
     pub list: WeightList,
@@ -45,7 +45,7 @@ pub(crate) fn no_weights() -> WeightList
 
 // n entries; a count over 32, the most that a list holds, counts as 32.
 pub fn weight_list(s: &[u8], c: Cursor, chroma: bool, n: u32) -> WeightListRead
-    ensures { λ r. ⌜ asEnd (r .end) (r .list) ≡ weightList chroma (atMost32 n) .read (bitsOf (now (s .entry))) (c .at) ⌝ }
+    ensures { λ r. ⌜ r ≡ weightListAnswer (weightList chroma (atMost32 n) .read (bitsOf (now (s .entry))) (c .at)) ⌝ }
 {
     let count = at_most_32(n);
     let mut entries = no_entries();

@@ -19,9 +19,9 @@ use syntax::record::PredWeightTable;
 ghost use mathlib.Core.Path.{_≡_};
 ghost use Rattle.bits.specs.Bits.{bitsOf};
 ghost use Rattle.bits.specs.Refusals.{pick};
-ghost use Rattle.codes.specs.Steps.{asEnd};
 ghost use Rattle.syntax.specs.SliceHeader.{predWeightTable};
 ghost use Rattle.weights.specs.Counts.{atMost32, noTable};
+ghost use Rattle.weights.specs.Steps.{tableAnswer};
 
 pub struct PredWeightTableRead {
     pub table: PredWeightTable,
@@ -60,7 +60,7 @@ pub fn pred_weight_table(
     n0: u32,
     n1: u32,
 ) -> PredWeightTableRead
-    ensures { λ r. ⌜ asEnd (r .end) (r .table) ≡ predWeightTable x «slice_type» (atMost32 n0) (atMost32 n1) .read (bitsOf (now (s .entry))) (c .at) ⌝ }
+    ensures { λ r. ⌜ r ≡ tableAnswer (predWeightTable x «slice_type» (atMost32 n0) (atMost32 n1) .read (bitsOf (now (s .entry))) (c .at)) ⌝ }
 {
     if !is_weighted(x, slice_type) {
         return PredWeightTableRead {

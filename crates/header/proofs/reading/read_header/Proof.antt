@@ -3,6 +3,7 @@ use mathlib.Core.Path.{sym, ap, _∙_}
 use Rattle.bits.specs.Bits.{bitsOf}
 use Rattle.codes.specs.declared.step.End.{End}
 use Rattle.codes.specs.Steps.{asEnd}
+use Rattle.codes.proofs.Ends.{beside-got, beside-no}
 use Rattle.header.specs.Lead.{asLead, tableOf}
 use Rattle.header.specs.Stages.{asFront, asBack}
 use Rattle.header.proofs.Cases.{lead-refused, front-refused, middle-refused, back-refused, nothing-follows, header-read}
@@ -30,7 +31,7 @@ returns c =
     let t = tableOf (c .before .before .before .before .before .before .args .sequences .now) (c .before .before .before .before .before .before .args .pictures .now) in
     let s = bitsOf (c .before .before .before .before .before .before .args .s .now) in
     let hl = sym (c .before .before .before .before .lead .ensures) ∙ ap asLead (c .before .before .enum-told .given .1) in
-    rw (c .refused .ensures, c .before .why-lead .ensures, c .before .before .enum-told .given .1, lead-refused t (c .before .before .before .before .before .before .args .kind) s hl)
+    rw (c .refused .ensures, c .before .why-lead .ensures, c .before .before .enum-told .given .1, lead-refused t (c .before .before .before .before .before .before .args .kind) s hl, beside-no)
 
 front-requires : tie.Need-front-requires
 front-requires c κs = search needs
@@ -53,7 +54,7 @@ returns-2 c =
     let s = bitsOf (c .before .before .before .before .before .before .before .before .before .before .before .before .args .s .now) in
     let hl = sym (c .before .before .before .before .before .before .before .before .before .before .lead .ensures) ∙ ap asLead (c .before .before .before .before .before .before .before .before .a1 .given .1) in
     let hf = sym (c .before .before .before .before .front .ensures) ∙ ap asFront (c .before .before .enum-told2 .given .1) in
-    rw (c .refused2 .ensures, c .before .why-front .ensures, c .before .before .enum-told2 .given .1, front-refused t (c .before .before .before .before .before .before .before .before .before .before .before .before .args .kind) s hl hf)
+    rw (c .refused2 .ensures, c .before .why-front .ensures, c .before .before .enum-told2 .given .1, front-refused t (c .before .before .before .before .before .before .before .before .before .before .before .before .args .kind) s hl hf, beside-no)
 
 middle-requires : tie.Need-middle-requires
 middle-requires c κs = search needs
@@ -77,7 +78,7 @@ returns-3 c =
     let hl = sym (c .before .before .before .before .before .before .before .before .before .before .before .before .before .before .before .lead .ensures) ∙ ap asLead (c .before .before .before .before .before .before .before .before .before .before .before .before .before .a1 .given .1) in
     let hf = sym (c .before .before .before .before .before .before .before .before .before .front .ensures) ∙ ap asFront (c .before .before .before .before .before .before .before .a2 .given .1) in
     let hm = sym (c .before .before .before .before .middle .ensures) ∙ ap (λ (e : End). asEnd e (c .before .before .before .before .middle .result .middle)) (c .before .before .enum-told3 .given .1) in
-    rw (c .refused3 .ensures, c .before .why-end .ensures, c .before .before .enum-told3 .given .1, middle-refused t (c .before .before .before .before .before .before .before .before .before .before .before .before .before .before .before .before .before .args .kind) s hl hf hm)
+    rw (c .refused3 .ensures, c .before .why-end .ensures, c .before .before .enum-told3 .given .1, middle-refused t (c .before .before .before .before .before .before .before .before .before .before .before .before .before .before .before .before .before .args .kind) s hl hf hm, beside-no)
 
 back-requires : tie.Need-back-requires
 back-requires c κs = search needs
@@ -102,7 +103,7 @@ returns-4 c =
     let hf = sym (c .before .before .before .before .before .before .before .before .before .before .before .before .before .front .ensures) ∙ ap asFront (c .before .before .before .before .before .before .before .before .before .before .before .a2 .given .1) in
     let hm = sym (c .before .before .before .before .before .before .before .before .middle .ensures) ∙ ap (λ (e : End). asEnd e (c .before .before .before .before .before .before .before .before .middle .result .middle)) (c .before .before .before .before .before .before .a3 .given .1) in
     let hb = sym (c .before .before .before .before .back .ensures) ∙ ap asBack (c .before .before .enum-told4 .given .1) in
-    rw (c .refused4 .ensures, c .before .why-back .ensures, c .before .before .enum-told4 .given .1, back-refused t (c .before .before .before .before .before .before .before .before .before .before .before .before .before .before .before .before .before .before .before .before .before .args .kind) s hl hf hm hb)
+    rw (c .refused4 .ensures, c .before .why-back .ensures, c .before .before .enum-told4 .given .1, back-refused t (c .before .before .before .before .before .before .before .before .before .before .before .before .before .before .before .before .before .before .before .before .before .args .kind) s hl hf hm hb, beside-no)
 
 any-set-after-requires : tie.Need-any-set-after-requires
 any-set-after-requires c κs = search needs
@@ -122,7 +123,7 @@ returns-5 c =
     let hm = sym (c .before .before .before .before .before .before .before .before .before .before .before .middle .ensures) ∙ ap (λ (e : End). asEnd e (c .before .before .before .before .before .before .before .before .before .before .before .middle .result .middle)) (c .before .before .before .before .before .before .before .before .before .a3 .given .1) in
     let hb = sym (c .before .before .before .before .before .before .before .back .ensures) ∙ ap asBack (c .before .before .before .before .before .a4 .given .1) in
     let h = sym (c .before .before .before .any-set-after .ensures) ∙ not-true _ (c .before .before .if1 .taken) in
-    rw (c .refused5 .ensures, c .before .refuse .ensures, nothing-follows t (c .before .before .before .before .before .before .before .before .before .before .before .before .before .before .before .before .before .before .before .before .before .before .before .before .args .kind) s hl hf hm hb h)
+    rw (c .refused5 .ensures, c .before .refuse .ensures, nothing-follows t (c .before .before .before .before .before .before .before .before .before .before .before .before .before .before .before .before .before .before .before .before .before .before .before .before .args .kind) s hl hf hm hb h, beside-no)
 
 returns-6 : tie.Need-returns-6
 returns-6 c =
@@ -133,7 +134,7 @@ returns-6 c =
     let hm = sym (c .before .before .before .before .before .before .before .before .before .before .before .before .before .before .before .before .before .middle .ensures) ∙ ap (λ (e : End). asEnd e (c .before .before .before .before .before .before .before .before .before .before .before .before .before .before .before .before .before .middle .result .middle)) (c .before .before .before .before .before .before .before .before .before .before .before .before .before .before .before .a3 .given .1) in
     let hb = sym (c .before .before .before .before .before .before .before .before .before .before .before .before .before .back .ensures) ∙ ap asBack (c .before .before .before .before .before .before .before .before .before .before .before .a4 .given .1) in
     let h = sym (c .before .before .before .before .before .before .before .before .before .any-set-after .ensures) ∙ not-false _ (c .before .before .before .before .before .before .before .before .if1 .left) in
-    rw (header-read t (c .before .before .before .before .before .before .before .before .before .before .before .before .before .before .before .before .before .before .before .before .before .before .before .before .before .before .before .before .before .before .args .kind) s hl hf hm hb h)
+    rw (header-read t (c .before .before .before .before .before .before .before .before .before .before .before .before .before .before .before .before .before .before .before .before .before .before .before .before .before .before .before .before .before .before .args .kind) s hl hf hm hb h, beside-got)
 
 pub read-header-spec : {M : Type 1} → statement M
 read-header-spec =

@@ -1,5 +1,6 @@
 use borrow.Author.Needs.{needs}
 use Rattle.syntax.specs.SliceHeader.{activeL0, activeL1}
+use Rattle.weights.proofs.Ends.{table-read}
 use Rattle.header.proofs.Counts.{twice-same}
 use Rattle.header.proofs.stages.weights_for.Statement.{statement}
 use Rattle.header.proofs.stages.weights_for.Tie as tie
@@ -15,8 +16,9 @@ pred-weight-table-requires c κs = search needs
 
 returns : tie.Need-returns
 returns c =
-    rw (c .before .before .active .ensures, c .before .active2 .ensures, twice-same (activeL0 (c .before .before .before .before .args .x) (c .before .before .before .before .args .a)), twice-same (activeL1 (c .before .before .before .before .args .x) (c .before .before .before .before .args .a)))
-    at (c .pred-weight-table .ensures)
+    let b = rw (c .before .before .active .ensures, c .before .active2 .ensures, twice-same (activeL0 (c .before .before .before .before .args .x) (c .before .before .before .before .args .a)), twice-same (activeL1 (c .before .before .before .before .args .x) (c .before .before .before .before .args .a)))
+    at (c .pred-weight-table .ensures) in
+    table-read b
 
 pub weights-for-spec : {M : Type 1} → statement M
 weights-for-spec =

@@ -1,5 +1,7 @@
 use Rattle.syntax.specs.SliceHeader.{decRefPicMarking}
 use Rattle.fmt.specs.Fmt.{seq, shaped}
+use Rattle.codes.proofs.Ends.{beside-got, beside-no}
+use Rattle.lists.proofs.Ends.{operations-read}
 use borrow.Author.Needs.{needs}
 use Rattle.lists.proofs.marking.dec_ref_pic_marking.Statement.{statement}
 use Rattle.lists.proofs.marking.dec_ref_pic_marking.Tie as tie
@@ -24,7 +26,7 @@ refused-requires c κs = search needs
 
 returns : tie.Need-returns
 unfolding decRefPicMarking seq shaped
-returns c = rw (c .refused .ensures, c .before .why-flag .ensures, ← c .before .before .before .before .before .both .ensures, ← c .before .before .before .before .flag-if .ensures, c .before .before .enum-told .given .1)
+returns c = rw (c .refused .ensures, c .before .why-flag .ensures, ← c .before .before .before .before .before .both .ensures, ← c .before .before .before .before .flag-if .ensures, c .before .before .enum-told .given .1, beside-no)
 
 flag-if-requires-2 : tie.Need-flag-if-requires-2
 flag-if-requires-2 c κs = search needs
@@ -43,7 +45,7 @@ refused-requires-2 c κs = search needs
 
 returns-2 : tie.Need-returns-2
 unfolding decRefPicMarking seq shaped
-returns-2 c = rw (c .refused2 .ensures, c .before .why-flag2 .ensures, ← c .before .before .before .before .before .before .before .before .before .both .ensures, ← c .before .before .before .before .before .before .before .before .flag-if .ensures, c .before .before .before .before .before .before .a1 .given .1, ← c .before .before .before .before .flag-if2 .ensures, c .before .before .enum-told2 .given .1)
+returns-2 c = rw (c .refused2 .ensures, c .before .why-flag2 .ensures, ← c .before .before .before .before .before .before .before .before .before .both .ensures, ← c .before .before .before .before .before .before .before .before .flag-if .ensures, c .before .before .before .before .before .before .a1 .given .1, ← c .before .before .before .before .flag-if2 .ensures, c .before .before .enum-told2 .given .1, beside-no)
 
 both-requires-2 : tie.Need-both-requires-2
 both-requires-2 c κs = search needs
@@ -65,7 +67,7 @@ refused-requires-3 c κs = search needs
 
 returns-3 : tie.Need-returns-3
 unfolding decRefPicMarking seq shaped
-returns-3 c = rw (c .refused3 .ensures, c .before .why-flag3 .ensures, ← c .before .before .before .before .before .before .before .before .before .before .before .before .before .before .before .both .ensures, ← c .before .before .before .before .before .before .before .before .before .before .before .before .before .before .flag-if .ensures, c .before .before .before .before .before .before .before .before .before .before .before .before .a1 .given .1, ← c .before .before .before .before .before .before .before .before .before .before .flag-if2 .ensures, c .before .before .before .before .before .before .before .before .a2 .given .1, ← c .before .before .before .before .before .both2 .ensures, ← c .before .before .before .before .flag-if3 .ensures, c .before .before .enum-told3 .given .1)
+returns-3 c = rw (c .refused3 .ensures, c .before .why-flag3 .ensures, ← c .before .before .before .before .before .before .before .before .before .before .before .before .before .before .before .both .ensures, ← c .before .before .before .before .before .before .before .before .before .before .before .before .before .before .flag-if .ensures, c .before .before .before .before .before .before .before .before .before .before .before .before .a1 .given .1, ← c .before .before .before .before .before .before .before .before .before .before .flag-if2 .ensures, c .before .before .before .before .before .before .before .before .a2 .given .1, ← c .before .before .before .before .before .both2 .ensures, ← c .before .before .before .before .flag-if3 .ensures, c .before .before .enum-told3 .given .1, beside-no)
 
 marking-kind-requires : tie.Need-marking-kind-requires
 marking-kind-requires c κs = search needs
@@ -87,11 +89,15 @@ refused-requires-4 c κs = search needs
 
 returns-4 : tie.Need-returns-4
 unfolding decRefPicMarking seq shaped
-returns-4 c = rw (c .refused4 .ensures, c .before .why-end .ensures, ← c .before .before .before .before .before .before .before .before .before .before .before .before .before .before .before .before .before .before .before .before .both .ensures, ← c .before .before .before .before .before .before .before .before .before .before .before .before .before .before .before .before .before .before .before .flag-if .ensures, c .before .before .before .before .before .before .before .before .before .before .before .before .before .before .before .before .before .a1 .given .1, ← c .before .before .before .before .before .before .before .before .before .before .before .before .before .before .before .flag-if2 .ensures, c .before .before .before .before .before .before .before .before .before .before .before .before .before .a2 .given .1, ← c .before .before .before .before .before .before .before .before .before .before .both2 .ensures, ← c .before .before .before .before .before .before .before .before .before .flag-if3 .ensures, c .before .before .before .before .before .before .before .a3 .given .1, ← c .before .before .before .before .before .marking-kind .ensures, ← c .before .before .before .before .operations-if .ensures, c .before .before .enum-told4 .given .1)
+returns-4 c =
+    let q = operations-read (c .before .before .before .before .operations-if .ensures) in
+    rw (c .refused4 .ensures, c .before .why-end .ensures, ← c .before .before .before .before .before .before .before .before .before .before .before .before .before .before .before .before .before .before .before .before .both .ensures, ← c .before .before .before .before .before .before .before .before .before .before .before .before .before .before .before .before .before .before .before .flag-if .ensures, c .before .before .before .before .before .before .before .before .before .before .before .before .before .before .before .before .before .a1 .given .1, ← c .before .before .before .before .before .before .before .before .before .before .before .before .before .before .before .flag-if2 .ensures, c .before .before .before .before .before .before .before .before .before .before .before .before .before .a2 .given .1, ← c .before .before .before .before .before .before .before .before .before .before .both2 .ensures, ← c .before .before .before .before .before .before .before .before .before .flag-if3 .ensures, c .before .before .before .before .before .before .before .a3 .given .1, ← c .before .before .before .before .before .marking-kind .ensures, ← q, c .before .before .enum-told4 .given .1, beside-no)
 
 returns-5 : tie.Need-returns-5
 unfolding decRefPicMarking seq shaped
-returns-5 c = rw (← c .before .before .before .before .before .before .before .before .before .before .before .before .before .before .before .before .before .before .before .before .both .ensures, ← c .before .before .before .before .before .before .before .before .before .before .before .before .before .before .before .before .before .before .before .flag-if .ensures, c .before .before .before .before .before .before .before .before .before .before .before .before .before .before .before .before .before .a1 .given .1, ← c .before .before .before .before .before .before .before .before .before .before .before .before .before .before .before .flag-if2 .ensures, c .before .before .before .before .before .before .before .before .before .before .before .before .before .a2 .given .1, ← c .before .before .before .before .before .before .before .before .before .before .both2 .ensures, ← c .before .before .before .before .before .before .before .before .before .flag-if3 .ensures, c .before .before .before .before .before .before .before .a3 .given .1, ← c .before .before .before .before .before .marking-kind .ensures, ← c .before .before .before .before .operations-if .ensures, c .before .before .a4 .given .1)
+returns-5 c =
+    let q = operations-read (c .before .before .before .before .operations-if .ensures) in
+    rw (← c .before .before .before .before .before .before .before .before .before .before .before .before .before .before .before .before .before .before .before .before .both .ensures, ← c .before .before .before .before .before .before .before .before .before .before .before .before .before .before .before .before .before .before .before .flag-if .ensures, c .before .before .before .before .before .before .before .before .before .before .before .before .before .before .before .before .before .a1 .given .1, ← c .before .before .before .before .before .before .before .before .before .before .before .before .before .before .before .flag-if2 .ensures, c .before .before .before .before .before .before .before .before .before .before .before .before .before .a2 .given .1, ← c .before .before .before .before .before .before .before .before .before .before .both2 .ensures, ← c .before .before .before .before .before .before .before .before .before .flag-if3 .ensures, c .before .before .before .before .before .before .before .a3 .given .1, ← c .before .before .before .before .before .marking-kind .ensures, ← q, c .before .before .a4 .given .1, beside-got)
 
 pub dec-ref-pic-marking-spec : {M : Type 1} → statement M
 dec-ref-pic-marking-spec =

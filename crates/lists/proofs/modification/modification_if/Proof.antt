@@ -1,5 +1,7 @@
 use Rattle.syntax.specs.SliceHeader.{modification}
 use Rattle.fmt.specs.Fmt.{seq, shaped}
+use Rattle.codes.proofs.Ends.{beside-got, beside-no}
+use Rattle.lists.proofs.Ends.{operations-read}
 use borrow.Author.Needs.{needs}
 use Rattle.lists.proofs.modification.modification_if.Statement.{statement}
 use Rattle.lists.proofs.modification.modification_if.Tie as tie
@@ -21,7 +23,7 @@ refused-requires c κs = search needs
 
 returns : tie.Need-returns
 unfolding modification seq shaped
-returns c = rw (c .refused .ensures, c .before .why-flag .ensures, ← c .before .before .before .before .flag-if .ensures, c .before .before .enum-told .given .1)
+returns c = rw (c .refused .ensures, c .before .why-flag .ensures, ← c .before .before .before .before .flag-if .ensures, c .before .before .enum-told .given .1, beside-no)
 
 modification-kind-requires : tie.Need-modification-kind-requires
 modification-kind-requires c κs = search needs
@@ -43,11 +45,15 @@ refused-requires-2 c κs = search needs
 
 returns-2 : tie.Need-returns-2
 unfolding modification seq shaped
-returns-2 c = rw (c .refused2 .ensures, c .before .why-end .ensures, ← c .before .before .before .before .before .before .before .before .before .flag-if .ensures, c .before .before .before .before .before .before .before .a1 .given .1, ← c .before .before .before .before .before .modification-kind .ensures, ← c .before .before .before .before .operations-if .ensures, c .before .before .enum-told2 .given .1)
+returns-2 c =
+    let q = operations-read (c .before .before .before .before .operations-if .ensures) in
+    rw (c .refused2 .ensures, c .before .why-end .ensures, ← c .before .before .before .before .before .before .before .before .before .flag-if .ensures, c .before .before .before .before .before .before .before .a1 .given .1, ← c .before .before .before .before .before .modification-kind .ensures, ← q, c .before .before .enum-told2 .given .1, beside-no)
 
 returns-3 : tie.Need-returns-3
 unfolding modification seq shaped
-returns-3 c = rw (← c .before .before .before .before .before .before .before .before .before .flag-if .ensures, c .before .before .before .before .before .before .before .a1 .given .1, ← c .before .before .before .before .before .modification-kind .ensures, ← c .before .before .before .before .operations-if .ensures, c .before .before .a2 .given .1)
+returns-3 c =
+    let q = operations-read (c .before .before .before .before .operations-if .ensures) in
+    rw (← c .before .before .before .before .before .before .before .before .before .flag-if .ensures, c .before .before .before .before .before .before .before .a1 .given .1, ← c .before .before .before .before .before .modification-kind .ensures, ← q, c .before .before .a2 .given .1, beside-got)
 
 pub modification-if-spec : {M : Type 1} → statement M
 modification-if-spec =

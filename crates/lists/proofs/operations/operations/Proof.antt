@@ -1,6 +1,9 @@
 use borrow.Author.Needs.{needs}
 use Prim.Native.Nat.{_-_}
+use mathlib.Core.Path.{ap}
 use Rattle.bits.specs.Bits.{bitsOf}
+use Rattle.codes.specs.Steps.{beside}
+use Rattle.lists.specs.Answers.{operationsAnswer}
 use Rattle.lists.proofs.Reading.{Reading, started, no-code, ended, too-many, no-first, no-second, turned}
 use Rattle.lists.proofs.operations.operations.Statement.{statement}
 use Rattle.lists.proofs.operations.operations.Tie as tie
@@ -30,11 +33,12 @@ refused-requires : tie.Need-refused-requires Inv-loop μ-loop
 refused-requires c κs = search needs
 
 returns : tie.Need-returns Inv-loop μ-loop
+unfolding beside
 returns c =
     let g = c .before .before .before .before .before .before .before .args in
     let a = c .before .before .before .before .before .loop .inv in
     let t = c .before .before .before .before .tested in
-    rw (c .refused .ensures) (no-code (g .kind) (bitsOf (g .s .now)) (g .c .at) a (t .result) (t .ensures) _ _ (c .before .before .enum-told .given .1) (c .before .why .ensures))
+    rw (c .refused .ensures) (ap operationsAnswer (no-code (g .kind) (bitsOf (g .s .now)) (g .c .at) a (t .result) (t .ensures) _ _ (c .before .before .enum-told .given .1) (c .before .why .ensures)))
 
 refuse-requires : tie.Need-refuse-requires Inv-loop μ-loop
 refuse-requires c κs = search needs
@@ -43,13 +47,14 @@ refused-requires-2 : tie.Need-refused-requires-2 Inv-loop μ-loop
 refused-requires-2 c κs = search needs
 
 returns-2 : tie.Need-returns-2 Inv-loop μ-loop
+unfolding beside
 returns-2 c =
     let g = c .before .before .before .before .before .before .before .before .before .before .before .args in
     let a = c .before .before .before .before .before .before .before .before .before .loop .inv in
     let t = c .before .before .before .before .before .before .before .before .tested in
     let v = c .before .before .before .before .before .before .a .given in
     let z = c .before .before .before .if1 .left in
-    rw (c .refused2 .ensures) (too-many (g .kind) (bitsOf (g .s .now)) (g .c .at) a (t .result) (t .ensures) (v .0 .0) (v .0 .1 .0) (v .1) z (c .before .before .if2 .taken) _ (c .before .refuse .ensures))
+    rw (c .refused2 .ensures) (ap operationsAnswer (too-many (g .kind) (bitsOf (g .s .now)) (g .c .at) a (t .result) (t .ensures) (v .0 .0) (v .0 .1 .0) (v .1) z (c .before .before .if2 .taken) _ (c .before .refuse .ensures)))
 
 has-first-requires : tie.Need-has-first-requires Inv-loop μ-loop
 has-first-requires c κs = search needs
@@ -70,6 +75,7 @@ refused-requires-3 : tie.Need-refused-requires-3 Inv-loop μ-loop
 refused-requires-3 c κs = search needs
 
 returns-3 : tie.Need-returns-3 Inv-loop μ-loop
+unfolding beside
 returns-3 c =
     let g = c .before .before .before .before .before .before .before .before .before .before .before .before .before .before .before .args in
     let a = c .before .before .before .before .before .before .before .before .before .before .before .before .before .loop .inv in
@@ -80,7 +86,7 @@ returns-3 c =
     let f = c .before .before .before .before .before .has-first in
     let x = c .before .before .before .before .given in
     rw (c .refused3 .ensures)
-    (no-first (g .kind) (bitsOf (g .s .now)) (g .c .at) a (t .result) (t .ensures) (v .0 .0) (v .0 .1 .0) (v .1) z m (f .result) (f .ensures) (x .result) (x .ensures) _ _ (c .before .before .enum-told2 .given .1) (c .before .why2 .ensures))
+    (ap operationsAnswer (no-first (g .kind) (bitsOf (g .s .now)) (g .c .at) a (t .result) (t .ensures) (v .0 .0) (v .0 .1 .0) (v .1) z m (f .result) (f .ensures) (x .result) (x .ensures) _ _ (c .before .before .enum-told2 .given .1) (c .before .why2 .ensures)))
 
 has-second-requires : tie.Need-has-second-requires Inv-loop μ-loop
 has-second-requires c κs = search needs
@@ -101,6 +107,7 @@ refused-requires-4 : tie.Need-refused-requires-4 Inv-loop μ-loop
 refused-requires-4 c κs = search needs
 
 returns-4 : tie.Need-returns-4 Inv-loop μ-loop
+unfolding beside
 returns-4 c =
     let g = c .before .before .before .before .before .before .before .before .before .before .before .before .before .before .before .before .before .before .before .before .args in
     let a = c .before .before .before .before .before .before .before .before .before .before .before .before .before .before .before .before .before .before .loop .inv in
@@ -114,8 +121,8 @@ returns-4 c =
     let h = c .before .before .before .before .before .has-second in
     let y = c .before .before .before .before .given2 in
     rw (c .refused4 .ensures)
-    (no-second (g .kind) (bitsOf (g .s .now)) (g .c .at) a (t .result) (t .ensures) (v .0 .0) (v .0 .1 .0) (v .1) z m (f .result) (f .ensures) (x .result) (x .ensures) (u .0 .0) (u .0 .1 .0) (u .1) (h .result) (h .ensures) (y .result) (y .ensures) _ _
-    (c .before .before .enum-told3 .given .1) (c .before .why3 .ensures))
+    (ap operationsAnswer (no-second (g .kind) (bitsOf (g .s .now)) (g .c .at) a (t .result) (t .ensures) (v .0 .0) (v .0 .1 .0) (v .1) z m (f .result) (f .ensures) (x .result) (x .ensures) (u .0 .0) (u .0 .1 .0) (u .1) (h .result) (h .ensures) (y .result) (y .ensures) _ _
+    (c .before .before .enum-told3 .given .1) (c .before .why3 .ensures)))
 
 cast-i : tie.Need-cast-i Inv-loop μ-loop
 cast-i c = search needs
@@ -161,12 +168,13 @@ loop-again c =
     turned (g .kind) (bitsOf (g .s .now)) (g .c .at) a (t .result) (t .ensures) (v .0 .0) (v .0 .1 .0) (v .1) z m (f .result) (f .ensures) (x .result) (x .ensures) (u .0 .0) (u .0 .1 .0) (u .1) (h .result) (h .ensures) (y .result) (y .ensures) (w .0 .0) (w .0 .1 .0) (w .1)
 
 returns-5 : tie.Need-returns-5 Inv-loop μ-loop
+unfolding beside
 returns-5 c =
     let g = c .before .before .before .before .before .before .before .before .args in
     let a = c .before .before .before .before .before .before .loop .inv in
     let t = c .before .before .before .before .before .tested in
     let v = c .before .before .before .a .given in
-    ended (g .kind) (bitsOf (g .s .now)) (g .c .at) a (t .result) (t .ensures) (v .0 .0) (v .0 .1 .0) (v .1) (c .if1 .taken)
+    ap operationsAnswer (ended (g .kind) (bitsOf (g .s .now)) (g .c .at) a (t .result) (t .ensures) (v .0 .0) (v .0 .1 .0) (v .1) (c .if1 .taken))
 
 pub operations-spec : {M : Type 1} → statement M
 operations-spec =

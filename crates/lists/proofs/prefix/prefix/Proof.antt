@@ -1,5 +1,7 @@
 use Rattle.syntax.specs.Prefix.{prefix}
 use Rattle.fmt.specs.Fmt.{seq, shaped}
+use Rattle.codes.proofs.Ends.{beside-got, beside-no}
+use Rattle.lists.proofs.Ends.{operations-read}
 use borrow.Author.Needs.{needs}
 use Rattle.lists.proofs.prefix.prefix.Statement.{statement}
 use Rattle.lists.proofs.prefix.prefix.Tie as tie
@@ -21,7 +23,7 @@ refused-requires c κs = search needs
 
 returns : tie.Need-returns
 unfolding prefix seq shaped
-returns c = rw (c .refused .ensures, c .before .why-flag .ensures, ← c .before .before .before .before .flag-if .ensures, c .before .before .enum-told .given .1)
+returns c = rw (c .refused .ensures, c .before .why-flag .ensures, ← c .before .before .before .before .flag-if .ensures, c .before .before .enum-told .given .1, beside-no)
 
 base-marking-kind-requires : tie.Need-base-marking-kind-requires
 base-marking-kind-requires c κs = search needs
@@ -43,7 +45,9 @@ refused-requires-2 c κs = search needs
 
 returns-2 : tie.Need-returns-2
 unfolding prefix seq shaped
-returns-2 c = rw (c .refused2 .ensures, c .before .why-end .ensures, ← c .before .before .before .before .before .before .before .before .before .flag-if .ensures, c .before .before .before .before .before .before .before .a1 .given .1, ← c .before .before .before .before .before .base-marking-kind .ensures, ← c .before .before .before .before .operations-if .ensures, c .before .before .enum-told2 .given .1)
+returns-2 c =
+    let q = operations-read (c .before .before .before .before .operations-if .ensures) in
+    rw (c .refused2 .ensures, c .before .why-end .ensures, ← c .before .before .before .before .before .before .before .before .before .flag-if .ensures, c .before .before .before .before .before .before .before .a1 .given .1, ← c .before .before .before .before .before .base-marking-kind .ensures, ← q, c .before .before .enum-told2 .given .1, beside-no)
 
 flag-if-requires-2 : tie.Need-flag-if-requires-2
 flag-if-requires-2 c κs = search needs
@@ -62,11 +66,15 @@ refused-requires-3 c κs = search needs
 
 returns-3 : tie.Need-returns-3
 unfolding prefix seq shaped
-returns-3 c = rw (c .refused3 .ensures, c .before .why-flag2 .ensures, ← c .before .before .before .before .before .before .before .before .before .before .before .before .before .flag-if .ensures, c .before .before .before .before .before .before .before .before .before .before .before .a1 .given .1, ← c .before .before .before .before .before .before .before .before .before .base-marking-kind .ensures, ← c .before .before .before .before .before .before .before .before .operations-if .ensures, c .before .before .before .before .before .before .a2 .given .1, ← c .before .before .before .before .flag-if2 .ensures, c .before .before .enum-told3 .given .1)
+returns-3 c =
+    let q = operations-read (c .before .before .before .before .before .before .before .before .operations-if .ensures) in
+    rw (c .refused3 .ensures, c .before .why-flag2 .ensures, ← c .before .before .before .before .before .before .before .before .before .before .before .before .before .flag-if .ensures, c .before .before .before .before .before .before .before .before .before .before .before .a1 .given .1, ← c .before .before .before .before .before .before .before .before .before .base-marking-kind .ensures, ← q, c .before .before .before .before .before .before .a2 .given .1, ← c .before .before .before .before .flag-if2 .ensures, c .before .before .enum-told3 .given .1, beside-no)
 
 returns-4 : tie.Need-returns-4
 unfolding prefix seq shaped
-returns-4 c = rw (← c .before .before .before .before .before .before .before .before .before .before .before .before .before .flag-if .ensures, c .before .before .before .before .before .before .before .before .before .before .before .a1 .given .1, ← c .before .before .before .before .before .before .before .before .before .base-marking-kind .ensures, ← c .before .before .before .before .before .before .before .before .operations-if .ensures, c .before .before .before .before .before .before .a2 .given .1, ← c .before .before .before .before .flag-if2 .ensures, c .before .before .a3 .given .1)
+returns-4 c =
+    let q = operations-read (c .before .before .before .before .before .before .before .before .operations-if .ensures) in
+    rw (← c .before .before .before .before .before .before .before .before .before .before .before .before .before .flag-if .ensures, c .before .before .before .before .before .before .before .before .before .before .before .a1 .given .1, ← c .before .before .before .before .before .before .before .before .before .base-marking-kind .ensures, ← q, c .before .before .before .before .before .before .a2 .given .1, ← c .before .before .before .before .flag-if2 .ensures, c .before .before .a3 .given .1, beside-got)
 
 pub prefix-spec : {M : Type 1} → statement M
 prefix-spec =

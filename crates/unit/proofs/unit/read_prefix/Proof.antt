@@ -1,5 +1,6 @@
 use mathlib.Core.Path.{refl, sym, _∙_}
 use lib.Seq.{length-take-le}
+use Rattle.lists.proofs.Ends.{body-read}
 use Rattle.unit.specs.Unit.{prefixBits}
 use Rattle.unit.proofs.Opened.{written, opened, closed}
 use borrow.Author.Needs.{needs}
@@ -41,7 +42,8 @@ returns : tie.Need-returns
 unfolding prefixBits
 returns c =
     let u = c .before .before .before .before .before .before .before .before in
-    rw (opened _ _ _ _ (c .before .before .before .before .before .before .before .before .before .before .before .before .pre) (u .unescape .ensures .1) (sym (c .before .before .before .before .n .given .1) ∙ u .unescape .ensures .0)) (rw (c .prefix-answer .ensures, c .before .prefix .ensures), refl)
+    let q = body-read (c .before .prefix .ensures) in
+    rw (opened _ _ _ _ (c .before .before .before .before .before .before .before .before .before .before .before .before .pre) (u .unescape .ensures .1) (sym (c .before .before .before .before .n .given .1) ∙ u .unescape .ensures .0)) (rw (c .prefix-answer .ensures, q), refl)
 
 same-length-2 : tie.Need-same-length-2
 same-length-2 c = search needs

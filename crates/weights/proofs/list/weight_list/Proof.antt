@@ -3,6 +3,7 @@ use mathlib.Core.Path.{_≡_, ap, sym, _∙_}
 use Rattle.bits.specs.Refusals.{got, no}
 use Rattle.bits.specs.Bits.{bitsOf}
 use Rattle.syntax.specs.SliceHeader.{weight}
+use Rattle.codes.proofs.Ends.{beside-got, beside-no}
 use Rattle.weights.specs.Steps.{asWeight}
 use Rattle.weights.proofs.Filled.{at-most-32, Filled, filled-none, filled-refused, filled-all, filled-more}
 use borrow.Author.Needs.{needs}
@@ -42,7 +43,8 @@ why-weight-requires c κs = search needs
 returns : tie.Need-returns Inv-loop μ-loop
 returns c =
     let u : weight (c .before .before .before .before .before .before .before .before .before .before .args .chroma) .read (bitsOf (c .before .before .before .before .before .before .before .before .before .before .args .s .now)) (c .before .before .before .before .before .before .loop .at .at) ≡ no (c .why-weight .result) = sym (c .before .before .before .before .weight .ensures) ∙ rw (c .why-weight .ensures, c .before .before .enum-told .given .1) in
-    rw (← c .before .before .before .before .before .before .before .before .at-most-32 .ensures) (sym (filled-refused _ _ _ _ (c .before .before .before .before .before .before .loop .inv) (search needs) (c .why-weight .result) u))
+    let q = filled-refused _ _ _ _ (c .before .before .before .before .before .before .loop .inv) (search needs) (c .why-weight .result) u in
+    rw (c .before .no-weights .ensures, ← c .before .before .before .before .before .before .before .before .at-most-32 .ensures, q, beside-no)
 
 cast-k : tie.Need-cast-k Inv-loop μ-loop
 cast-k c = search needs
@@ -65,7 +67,9 @@ loop-again c =
     filled-more _ _ _ _ (c .before .before .before .before .before .loop .inv) (search needs) _ _ u
 
 returns-2 : tie.Need-returns-2 Inv-loop μ-loop
-returns-2 c = rw (← c .before .before .before .at-most-32 .ensures) (sym (filled-all _ _ _ _ (c .before .loop .inv) (search needs)))
+returns-2 c =
+    let q = filled-all _ _ _ _ (c .before .loop .inv) (search needs) in
+    rw (← c .before .before .before .at-most-32 .ensures, q, beside-got)
 
 pub weight-list-spec : {M : Type 1} → statement M
 weight-list-spec =

@@ -6,6 +6,8 @@ use Rattle.bits.specs.Bits.{bitsOf}
 use Rattle.fmt.specs.Leaves.{ue}
 use Rattle.syntax.specs.SliceHeader.{predWeightTable}
 use Rattle.weights.specs.Counts.{atMost32}
+use Rattle.codes.proofs.Ends.{beside-got, beside-no}
+use Rattle.weights.proofs.Ends.{weight-list-read}
 use Rattle.weights.proofs.Tables.{at-most-if, present, table-absent, table-there}
 use borrow.Author.Needs.{needs}
 use Rattle.weights.proofs.weights.pred_weight_table.Statement.{statement}
@@ -18,7 +20,7 @@ no-table-requires : tie.Need-no-table-requires
 no-table-requires c κs = search needs
 
 returns : tie.Need-returns
-returns c = rw (c .no-table .ensures, table-absent (c .before .before .before .before .args .x) (c .before .before .before .before .args .slice-type) _ _ _ _ (sym (c .before .before .is-weighted .ensures) ∙ not-true _ (c .before .if1 .taken)))
+returns c = rw (c .no-table .ensures, table-absent (c .before .before .before .before .args .x) (c .before .before .before .before .args .slice-type) _ _ _ _ (sym (c .before .before .is-weighted .ensures) ∙ not-true _ (c .before .if1 .taken)), beside-got)
 
 -- from here on the table is there
 there : (c : tie.After-has-chroma)
@@ -46,7 +48,7 @@ why-requires c κs = search needs
 
 returns-2 : tie.Need-returns-2
 unfolding ue
-returns-2 c = rw (there (c .before .before .before .before .before), c .why .ensures, ← c .before .before .before .before .ue .ensures, c .before .before .enum-told .given .1)
+returns-2 c = rw (c .before .no-table2 .ensures, there (c .before .before .before .before .before), c .why .ensures, ← c .before .before .before .before .ue .ensures, c .before .before .enum-told .given .1, beside-no)
 
 number-if-requires : tie.Need-number-if-requires
 number-if-requires c κs = search needs
@@ -65,7 +67,7 @@ why-number-requires c κs = search needs
 
 returns-3 : tie.Need-returns-3
 unfolding ue
-returns-3 c = rw (there (c .before .before .before .before .before .before .before .before .before), c .why-number .ensures, ← c .before .before .before .before .before .before .before .before .ue .ensures, c .before .before .before .before .before .before .a1 .given .1, ← c .before .before .before .before .number-if .ensures, c .before .before .enum-told2 .given .1)
+returns-3 c = rw (c .before .no-table3 .ensures, there (c .before .before .before .before .before .before .before .before .before), c .why-number .ensures, ← c .before .before .before .before .before .before .before .before .ue .ensures, c .before .before .before .before .before .before .a1 .given .1, ← c .before .before .before .before .number-if .ensures, c .before .before .enum-told2 .given .1, beside-no)
 
 weight-list-requires : tie.Need-weight-list-requires
 weight-list-requires c κs = search needs
@@ -84,7 +86,9 @@ why-end-requires c κs = search needs
 
 returns-4 : tie.Need-returns-4
 unfolding ue
-returns-4 c = rw (there (c .before .before .before .before .before .before .before .before .before .before .before .before .before), c .why-end .ensures, ← c .before .before .before .before .before .before .before .before .before .before .before .before .ue .ensures, c .before .before .before .before .before .before .before .before .before .before .a1 .given .1, ← c .before .before .before .before .before .before .before .before .number-if .ensures, c .before .before .before .before .before .before .a2 .given .1, ← c .before .before .before .before .weight-list .ensures, c .before .before .enum-told3 .given .1)
+returns-4 c =
+    let p = weight-list-read (c .before .before .before .before .weight-list .ensures) in
+    rw (c .before .no-table4 .ensures, there (c .before .before .before .before .before .before .before .before .before .before .before .before .before), c .why-end .ensures, ← c .before .before .before .before .before .before .before .before .before .before .before .before .ue .ensures, c .before .before .before .before .before .before .before .before .before .before .a1 .given .1, ← c .before .before .before .before .before .before .before .before .number-if .ensures, c .before .before .before .before .before .before .a2 .given .1, ← p, c .before .before .enum-told3 .given .1, beside-no)
 
 is-type-requires : tie.Need-is-type-requires
 is-type-requires c κs = search needs
@@ -110,14 +114,18 @@ why-end-requires-2 c κs = search needs
 returns-5 : tie.Need-returns-5
 unfolding ue
 returns-5 c =
-    let q = rw (c .before .before .before .before .before .count-if .ensures, c .before .before .before .before .before .before .is-type .ensures, at-most-if (eqb (c .before .before .before .before .before .before .before .before .before .before .before .before .before .before .before .before .before .before .before .before .before .before .before .args .slice-type % 5) 1) (c .before .before .before .before .before .before .before .before .before .before .before .before .before .before .before .before .before .before .before .before .before .before .before .args .n1)) at (c .before .before .before .before .weight-list2 .ensures) in
-    rw (there (c .before .before .before .before .before .before .before .before .before .before .before .before .before .before .before .before .before .before .before), c .why-end2 .ensures, ← c .before .before .before .before .before .before .before .before .before .before .before .before .before .before .before .before .before .before .ue .ensures, c .before .before .before .before .before .before .before .before .before .before .before .before .before .before .before .before .a1 .given .1, ← c .before .before .before .before .before .before .before .before .before .before .before .before .before .before .number-if .ensures, c .before .before .before .before .before .before .before .before .before .before .before .before .a2 .given .1, ← c .before .before .before .before .before .before .before .before .before .before .weight-list .ensures, c .before .before .before .before .before .before .before .before .e3 .given .1, ← q, c .before .before .enum-told4 .given .1)
+    let p = weight-list-read (c .before .before .before .before .before .before .before .before .before .before .weight-list .ensures) in
+    let b = rw (c .before .before .before .before .before .count-if .ensures, c .before .before .before .before .before .before .is-type .ensures, at-most-if (eqb (c .before .before .before .before .before .before .before .before .before .before .before .before .before .before .before .before .before .before .before .before .before .before .before .args .slice-type % 5) 1) (c .before .before .before .before .before .before .before .before .before .before .before .before .before .before .before .before .before .before .before .before .before .before .before .args .n1)) at (c .before .before .before .before .weight-list2 .ensures) in
+    let q = weight-list-read b in
+    rw (c .before .no-table5 .ensures, there (c .before .before .before .before .before .before .before .before .before .before .before .before .before .before .before .before .before .before .before), c .why-end2 .ensures, ← c .before .before .before .before .before .before .before .before .before .before .before .before .before .before .before .before .before .before .ue .ensures, c .before .before .before .before .before .before .before .before .before .before .before .before .before .before .before .before .a1 .given .1, ← c .before .before .before .before .before .before .before .before .before .before .before .before .before .before .number-if .ensures, c .before .before .before .before .before .before .before .before .before .before .before .before .a2 .given .1, ← p, c .before .before .before .before .before .before .before .before .e3 .given .1, ← q, c .before .before .enum-told4 .given .1, beside-no)
 
 returns-6 : tie.Need-returns-6
 unfolding ue
 returns-6 c =
-    let q = rw (c .before .before .before .before .before .before .count-if .ensures, c .before .before .before .before .before .before .before .is-type .ensures, at-most-if (eqb (c .before .before .before .before .before .before .before .before .before .before .before .before .before .before .before .before .before .before .before .before .before .before .before .before .args .slice-type % 5) 1) (c .before .before .before .before .before .before .before .before .before .before .before .before .before .before .before .before .before .before .before .before .before .before .before .before .args .n1)) at (c .before .before .before .before .before .weight-list2 .ensures) in
-    rw (there (c .before .before .before .before .before .before .before .before .before .before .before .before .before .before .before .before .before .before .before .before), ← c .before .before .before .before .before .before .before .before .before .before .before .before .before .before .before .before .before .before .before .ue .ensures, c .before .before .before .before .before .before .before .before .before .before .before .before .before .before .before .before .before .a1 .given .1, ← c .before .before .before .before .before .before .before .before .before .before .before .before .before .before .before .number-if .ensures, c .before .before .before .before .before .before .before .before .before .before .before .before .before .a2 .given .1, ← c .before .before .before .before .before .before .before .before .before .before .before .weight-list .ensures, c .before .before .before .before .before .before .before .before .before .e3 .given .1, ← q, c .before .before .before .e4 .given .1)
+    let p = weight-list-read (c .before .before .before .before .before .before .before .before .before .before .before .weight-list .ensures) in
+    let b = rw (c .before .before .before .before .before .before .count-if .ensures, c .before .before .before .before .before .before .before .is-type .ensures, at-most-if (eqb (c .before .before .before .before .before .before .before .before .before .before .before .before .before .before .before .before .before .before .before .before .before .before .before .before .args .slice-type % 5) 1) (c .before .before .before .before .before .before .before .before .before .before .before .before .before .before .before .before .before .before .before .before .before .before .before .before .args .n1)) at (c .before .before .before .before .before .weight-list2 .ensures) in
+    let q = weight-list-read b in
+    rw (there (c .before .before .before .before .before .before .before .before .before .before .before .before .before .before .before .before .before .before .before .before), ← c .before .before .before .before .before .before .before .before .before .before .before .before .before .before .before .before .before .before .before .ue .ensures, c .before .before .before .before .before .before .before .before .before .before .before .before .before .before .before .before .before .a1 .given .1, ← c .before .before .before .before .before .before .before .before .before .before .before .before .before .before .before .number-if .ensures, c .before .before .before .before .before .before .before .before .before .before .before .before .before .a2 .given .1, ← p, c .before .before .before .before .before .before .before .before .before .e3 .given .1, ← q, c .before .before .before .e4 .given .1, beside-got)
 
 pub pred-weight-table-spec : {M : Type 1} → statement M
 pred-weight-table-spec =
