@@ -1,0 +1,5 @@
+pub mod Hits
+pub mod Trims
+pub mod Nexts
+pub mod Chain
+pub mod Steps
