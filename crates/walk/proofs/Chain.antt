@@ -11,7 +11,7 @@ use lib.ListN.{length, take, drop, length-drop}
 use lib.Seq.{drop-drop, drop-length}
 use Rattle.bits.specs.Refusals.{pick}
 use Rattle.walk.specs.declared.search.Found.{Found}
-use Rattle.walk.specs.Walk.{hit, upto, kept, lenOf, codeAt, unitAt, nextUnit}
+use Rattle.walk.specs.Walk.{hit, upto, kept, lenOf, firstFrom, unitAt, nextUnit}
 use Rattle.walk.specs.Units.{Report, Span, spanOf, unitsAt}
 use Rattle.walk.proofs.Hits.{hit-first, hit-second, upto-le, upto-at, code-room}
 use Rattle.walk.proofs.Trims.{kept-le}
@@ -107,7 +107,7 @@ pub record Went (s : List ℕ) (from p l m : ℕ) : Type 0 where
   pub there : unitsAt from (drop from s) ≡ record { place = p; length = l; next = m; read = take l (drop p s) } ∷ unitsAt m (drop m s)
 
 pub went : (s : List ℕ) (from p l m : ℕ) → nextUnit s from ≡ Found.At p l m → Went s from p l m
-unfolding nextUnit unitAt codeAt
+unfolding nextUnit unitAt firstFrom
 went s from p l m e = go (from + upto 1 (drop from s)) refl (ltb (from + upto 1 (drop from s)) (length s)) refl
   where
     go : (at : ℕ) → at ≡ from + upto 1 (drop from s) → (t : Bool) → ltb (from + upto 1 (drop from s)) (length s) ≡ t → Went s from p l m
@@ -129,7 +129,7 @@ went s from p l m e = go (from + upto 1 (drop from s)) refl (ltb (from + upto 1 
     go at d false f = let z : _≡_ {A = ℕ} 0 1 = cc (rw f at e) in absurd (omega arith)
 
 pub ended : (s : List ℕ) (from : ℕ) → nextUnit s from ≡ Found.End → unitsAt from (drop from s) ≡ []
-unfolding nextUnit unitAt codeAt
+unfolding nextUnit unitAt firstFrom
 ended s from e = go (ltb (from + upto 1 (drop from s)) (length s)) refl
   where
     go : (t : Bool) → ltb (from + upto 1 (drop from s)) (length s) ≡ t → unitsAt from (drop from s) ≡ []

@@ -37,9 +37,9 @@ unfoldable pub unitAt : List ℕ → ℕ → Found
 unitAt s at = Found.At (at + 3) (lenOf (drop (at + 3) s)) (at + 3 + upto 0 (drop (at + 3) s))
 
 -- where the first start code from `from` on begins; at the end or later where there is none
-unfoldable pub codeAt : List ℕ → ℕ → ℕ
-codeAt s from = from + upto 1 (drop from s)
+unfoldable pub firstFrom : List ℕ → ℕ → ℕ
+firstFrom s from = from + upto 1 (drop from s)
 
 -- the first unit whose start code begins at `from` or later
 unfoldable pub nextUnit : List ℕ → ℕ → Found
-nextUnit s from = pick (ltb (codeAt s from) (length s)) (unitAt s (codeAt s from)) Found.End
+nextUnit s from = pick (ltb (firstFrom s from) (length s)) (unitAt s (firstFrom s from)) Found.End

@@ -66,3 +66,10 @@ pub fn walk_in<'a>(
         Found::End => nothing(Step::End),
     }
 }
+
+// One step, by the sets of a table.
+pub fn walk(t: &Table, recording: &[u8], from: usize, scratch: &mut [u8]) -> Walked
+    ensures { λ r. ⌜ (r ≡ walked (now (t .entry)) (now (recording .entry)) from (now (scratch .entry)) .walked) × (now (scratch .exit) ≡ walked (now (t .entry)) (now (recording .entry)) from (now (scratch .entry)) .left) ⌝ }
+{
+    walk_in(&t.sequences, &t.pictures, recording, from, scratch)
+}
