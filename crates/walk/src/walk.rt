@@ -39,8 +39,8 @@ fn nothing(step: Step) -> Walked
 
 // One step, by the sets in a table's two arrays. Where it comes to no unit, scratch is untouched.
 pub fn walk_in<'a>(
-    sequences: &'a [u32; 320],
-    pictures: &'a [u32; 3328],
+    sequences: &'a [u32; 224],
+    pictures: &'a [u32; 2048],
     recording: &[u8],
     from: usize,
     scratch: &mut [u8],
