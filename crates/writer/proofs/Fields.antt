@@ -38,6 +38,17 @@ there-marked b mark zero h t = rw t at h
 absent-fits : (b mark zero : Bool) → fits b mark zero ≡ true → b ≡ false → T (not mark && zero)
 absent-fits b mark zero h t = subst⁻¹ T (rw t at h) tt
 
+-- a mark without a value of its own
+pub marked : (b mark : Bool) {f : Bool} → f ≡ fits b mark true → f ≡ true → pick b mark (not mark) ≡ true
+marked true mark e q = sym e ∙ q
+marked false true e q = sym e ∙ q
+marked false false e q = refl
+
+pub unmarked : (b mark : Bool) {f : Bool} → f ≡ fits b mark true → f ≡ false → pick b mark (not mark) ≡ false
+unmarked true mark e q = sym e ∙ q
+unmarked false true e q = refl
+unmarked false false e q = sym e ∙ q
+
 -- ---- there only if b, in the record's shape
 
 module _ {A B : Type 0} (to : Marked A → B) (from : B → Marked A) (z : A) (isz : A → Bool) (F : Fmt A) (x : B) (b : Bool) {f : Bool}

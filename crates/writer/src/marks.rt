@@ -25,7 +25,7 @@ ghost use Rattle.syntax.specs.Marks.{isZero, isZeroZ, numberIf, signedIf, flagI
 ghost use Rattle.syntax.specs.SliceHeader.{offsetFits};
 
 // Whether the mark is what it should be, and the value zero where the field is absent.
-fn fitting(there: bool, mark: bool, zero: bool) -> bool
+pub(crate) fn fitting(there: bool, mark: bool, zero: bool) -> bool
     ensures { λ r. ⌜ r ≡ pick there mark (not mark && zero) ⌝ }
 {
     if there {
