@@ -1,46 +1,42 @@
 -- A loop that writes a list: what holds when the first i elements have been written, and what each turn shows. An invariant says that whatever writes the
 -- rest writes the whole.
 use Prim.Native.Nat.{ℕ, suc, _+_, _-_, _≤_, _<_}
-use mathlib.Core.Path.{_≡_, refl, _∙_}
+use mathlib.Core.Path.{_≡_}
 use mathlib.Core.List.{List, _∷_}
 use mathlib.Core.Bool.{true, false}
 use native.Mathlib.Omega.{arith}
 use native.Mathlib.Nat.{sub-zero}
 use lib.Dec.{eqb}
-use lib.IntN.{pos}
 use lib.ListN.{length, drop, drop-of-length-le}
 use Rattle.bits.specs.declared.refusals.Refusal.{Refusal}
 use Rattle.bits.specs.declared.read.Cursor.{Cursor}
 use Rattle.bits.specs.declared.put.Wrote.{Wrote}
 use Rattle.bits.specs.declared.put.Wrote.the-variants.{At, Refused}
-use Rattle.bits.specs.Refusals.{refusal, noBits}
-use Rattle.bits.specs.Bits.{bitsOf}
 use Rattle.fmt.specs.Fmt.{Fmt, seq, times, until}
-use Rattle.fmt.specs.Put.{Put, none}
-use Rattle.fmt.proofs.Puts.{Done, Stopped, done-room, seq-put, seq-stop, times-end, times-put, until-end, until-put, until-closes, until-long}
+use Rattle.fmt.specs.Put.{Put}
+use Rattle.fmt.proofs.Puts.{Done, Stopped, not-good, seq-put, seq-stop, times-end, times-put, until-end, until-put, until-closes, until-long}
 
 module _ {A : Type 0} (C : Fmt ℕ) (close : ℕ) (G : ℕ → Fmt A) (cap : ℕ) (l : List (ℕ × A)) (d : List ℕ) (at : ℕ) where
   -- the first i codes with their operands have been written, dᵢ is the buffer, and the next place is e
   pub record Ahead (i : ℕ) (dᵢ : List ℕ) (e : ℕ) : Type 0 where
-    pub room : length (bitsOf dᵢ) ≡ length (bitsOf d)
     pub rest : (d' : List ℕ) (r : Wrote) → Put (until C close G (cap - i)) (drop i l) dᵢ e d' r → Put (until C close G cap) l d at d' r
 
   pub ahead-none : Ahead 0 d at
-  ahead-none = record { room = refl; rest = λ d' r p. rw (← sub-zero cap) p }
+  ahead-none = record { rest = λ d' r p. rw (← sub-zero cap) p }
 
   module _ {i : ℕ} {dᵢ : List ℕ} {e : ℕ} (a : Ahead i dᵢ e) where
     pub ahead-closed : length l ≤ i → (d' : List ℕ) (r : Wrote) → Put C close dᵢ e d' r → Put (until C close G cap) l d at d' r
     ahead-closed h d' r p = a .rest d' r (rw (drop-of-length-le l h) (until-end C close G (cap - i) p))
 
     -- the next element is x, and cannot stand there: its code is the closing one, or the list is full
-    module _ (x : ℕ × A) (is : drop i l ≡ x ∷ drop (i + 1) l) (y : ℕ) (d' : List ℕ) where
-      pub ahead-closes : eqb (x .0) close ≡ true → Put (until C close G cap) l d at d' (Refused (refusal noBits (pos 0) y))
-      ahead-closes h = a .rest d' _ (rw is (none y (until-closes C close G (cap - i) x (drop (i + 1) l) h)))
+    module _ (x : ℕ × A) (is : drop i l ≡ x ∷ drop (i + 1) l) (q : Refusal) (d' : List ℕ) where
+      pub ahead-closes : eqb (x .0) close ≡ true → Put (until C close G cap) l d at d' (Refused q)
+      ahead-closes h = a .rest d' _ (rw is (not-good (until C close G (cap - i)) (x ∷ drop (i + 1) l) (until-closes C close G (cap - i) x (drop (i + 1) l) h)))
 
-      pub ahead-full : cap ≤ i → Put (until C close G cap) l d at d' (Refused (refusal noBits (pos 0) y))
+      pub ahead-full : cap ≤ i → Put (until C close G cap) l d at d' (Refused q)
       ahead-full h =
           let k : 0 ≡ cap - i = omega arith in
-          a .rest d' _ (rw (is, ← k) (none y (until-long C close G x (drop (i + 1) l))))
+          a .rest d' _ (rw (is, ← k) (not-good (until C close G 0) (x ∷ drop (i + 1) l) (until-long C close G x (drop (i + 1) l))))
 
     -- the next element is x, which is no closing code
     module _ (x : ℕ × A) (is : drop i l ≡ x ∷ drop (i + 1) l) (no-close : eqb (x .0) close ≡ false) (more : i < cap) where
@@ -50,7 +46,7 @@ module _ {A : Type 0} (C : Fmt ℕ) (close : ℕ) (G : ℕ → Fmt A) (cap : ℕ
           let k : suc (cap - (i + 1)) ≡ cap - i = omega arith in
           a .rest d' r (rw (is, ← k) (until-put C close G (cap - (i + 1)) x (drop (i + 1) l) no-close p))
 
-      pub ahead-stop : (q : Refusal) → Stopped C (x .0) q → (d' : List ℕ) → Put (until C close G cap) l d at d' (Refused q)
+      pub ahead-stop : (q : Refusal) → Stopped C (x .0) dᵢ e → (d' : List ℕ) → Put (until C close G cap) l d at d' (Refused q)
       ahead-stop q h d' = entry d' (Refused q) (seq-stop C (λ c. seq (G c) (λ v. until C close G (cap - (i + 1)))) (x .0) (x .1, drop (i + 1) l) h)
 
       module _ {d₁ : List ℕ} {c₁ : Cursor} (w : Done C (x .0) dᵢ e d₁ c₁) where
@@ -58,30 +54,26 @@ module _ {A : Type 0} (C : Fmt ℕ) (close : ℕ) (G : ℕ → Fmt A) (cap : ℕ
             → Put (until C close G cap) l d at d' r
         after-code d' r p = entry d' r (seq-put C (λ c. seq (G c) (λ v. until C close G (cap - (i + 1)))) (x .0) (x .1, drop (i + 1) l) w p)
 
-        pub ahead-stop-operand : (q : Refusal) → Stopped (G (x .0)) (x .1) q → (d' : List ℕ) → Put (until C close G cap) l d at d' (Refused q)
+        pub ahead-stop-operand : (q : Refusal) → Stopped (G (x .0)) (x .1) d₁ (c₁ .at) → (d' : List ℕ) → Put (until C close G cap) l d at d' (Refused q)
         ahead-stop-operand q h d' = after-code d' (Refused q) (seq-stop (G (x .0)) (λ v. until C close G (cap - (i + 1))) (x .1) (drop (i + 1) l) h)
 
         pub ahead-next : {d₂ : List ℕ} {c₂ : Cursor} → Done (G (x .0)) (x .1) d₁ (c₁ .at) d₂ c₂ → Ahead (i + 1) d₂ (c₂ .at)
         ahead-next v =
-            record {
-              room = done-room (G (x .0)) (x .1) v ∙ done-room C (x .0) w ∙ a .room;
-              rest = λ d' r p. after-code d' r (seq-put (G (x .0)) (λ v. until C close G (cap - (i + 1))) (x .1) (drop (i + 1) l) v p);
-            }
+            record { rest = λ d' r p. after-code d' r (seq-put (G (x .0)) (λ v. until C close G (cap - (i + 1))) (x .1) (drop (i + 1) l) v p) }
 
 module _ {A : Type 0} (F : Fmt A) (n : ℕ) (l : List A) (d : List ℕ) (at : ℕ) where
   -- the first i of n elements have been written
   pub record CountedAhead (i : ℕ) (dᵢ : List ℕ) (e : ℕ) : Type 0 where
-    pub room : length (bitsOf dᵢ) ≡ length (bitsOf d)
     pub rest : (d' : List ℕ) (r : Wrote) → Put (times (n - i) F) (drop i l) dᵢ e d' r → Put (times n F) l d at d' r
 
   pub counted-none : CountedAhead 0 d at
-  counted-none = record { room = refl; rest = λ d' r p. rw (← sub-zero n) p }
+  counted-none = record { rest = λ d' r p. rw (← sub-zero n) p }
 
   module _ {i : ℕ} {dᵢ : List ℕ} {e : ℕ} (a : CountedAhead i dᵢ e) where
-    pub counted-all : length l ≤ i → n ≤ i → e ≤ length (bitsOf dᵢ) → Put (times n F) l d at dᵢ (At (record { at = e }))
-    counted-all h m room =
+    pub counted-all : length l ≤ i → n ≤ i → Put (times n F) l d at dᵢ (At (record { at = e }))
+    counted-all h m =
         let k : 0 ≡ n - i = omega arith in
-        a .rest dᵢ (At (record { at = e })) (rw (drop-of-length-le l h, ← k) (times-end F dᵢ e room))
+        a .rest dᵢ (At (record { at = e })) (rw (drop-of-length-le l h, ← k) (times-end F dᵢ e))
 
     module _ (x : A) (is : drop i l ≡ x ∷ drop (i + 1) l) (more : i < n) where
       element : (d' : List ℕ) (r : Wrote) → Put (seq F (λ v. times (n - (i + 1)) F)) (x, drop (i + 1) l) dᵢ e d' r → Put (times n F) l d at d' r
@@ -89,12 +81,9 @@ module _ {A : Type 0} (F : Fmt A) (n : ℕ) (l : List A) (d : List ℕ) (at : �
           let k : suc (n - (i + 1)) ≡ n - i = omega arith in
           a .rest d' r (rw (is, ← k) (times-put F (n - (i + 1)) x (drop (i + 1) l) p))
 
-      pub counted-stop : (q : Refusal) → Stopped F x q → (d' : List ℕ) → Put (times n F) l d at d' (Refused q)
+      pub counted-stop : (q : Refusal) → Stopped F x dᵢ e → (d' : List ℕ) → Put (times n F) l d at d' (Refused q)
       counted-stop q h d' = element d' (Refused q) (seq-stop F (λ v. times (n - (i + 1)) F) x (drop (i + 1) l) h)
 
       pub counted-next : {d₁ : List ℕ} {c : Cursor} → Done F x dᵢ e d₁ c → CountedAhead (i + 1) d₁ (c .at)
       counted-next w =
-          record {
-            room = done-room F x w ∙ a .room;
-            rest = λ d' r p. element d' r (seq-put F (λ v. times (n - (i + 1)) F) x (drop (i + 1) l) w p);
-          }
+          record { rest = λ d' r p. element d' r (seq-put F (λ v. times (n - (i + 1)) F) x (drop (i + 1) l) w p) }
