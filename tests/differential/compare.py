@@ -50,8 +50,8 @@ def escaped_anew(unit):
 class Sides:
     """The port's command and the oracle, run over case files in a folder."""
 
-    def __init__(self, port, oracle, folder):
-        self.port, self.oracle, self.folder = port, oracle, pathlib.Path(folder)
+    def __init__(self, port, oracle, folder, bits=False):
+        self.port, self.oracle, self.folder, self.bits = port, oracle, pathlib.Path(folder), bits
         self.rust_words, self.seen = {}, set()
 
     def front(self, words):
@@ -64,7 +64,7 @@ class Sides:
         path = self.folder / "cases"
         path.write_text("\n".join(lines) + "\n")
         done = subprocess.run([*command, str(path)], stdout=subprocess.PIPE, text=True)
-        said = BIT.sub("", done.stdout).splitlines()
+        said = (done.stdout if self.bits else BIT.sub("", done.stdout)).splitlines()
         if len(said) != len(lines):
             raise SystemExit(f"{command[0]}: {len(said)} answers to {len(lines)} cases, exit status {done.returncode}; the cases are in {path}")
         return said
