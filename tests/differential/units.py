@@ -74,6 +74,14 @@ def damaged(r, unit):
     return bytes(unit)
 
 
+def grown(r, unit):
+    """The unit made as long as the domain of comparison goes, 65,536 bytes: noise, or zeros up to a last byte."""
+    if r.getrandbits(1):
+        return unit + b"\xa5" * (65_536 - len(unit))
+    rest = (b"\0\0\3" * 22_000)[: 65_536 - len(unit) - 2]
+    return unit + b"\x04" + rest + r.choice((b"\1", b"\x80", b"\3"))
+
+
 def extension(r):
     """Three bytes: MVC mostly; zeros at its end, which must not count towards an escape."""
     first = r.getrandbits(7) | (0x80 if r.random() < 0.15 else 0)
@@ -112,4 +120,7 @@ def drawn_unit(r, table):
     elif y < 0.12:
         pieces = torn_pieces(r, pieces)
     unit = bytes([ref_idc << 5 | kind]) + ext + escaped(packed("".join(pieces) + tail(r)))
-    return damaged(r, unit) if r.random() < 0.25 else unit
+    z = r.random()
+    if z < 0.0001:
+        return grown(r, unit)
+    return damaged(r, unit) if z < 0.25 else unit
