@@ -1,7 +1,9 @@
 #!/usr/bin/env python3
 """Replays tests/frozen: thousands of cases with the answers of h264-reader 0.9.0, which need none of its sources.
 
-    tests/frozen.py [--port COMMAND]    what answers `COMMAND cases FILE`; else $TUZ, else ./tuz; else the model alone is held to them
+    tests/frozen.py [--port COMMAND | --model]
+
+COMMAND answers `COMMAND cases FILE`; else $TUZ does, else ./tuz. The model in document01.py is held to them too; --model: it alone.
 
 A line of answers.txt is the Rust's answer, as tests/oracle prints it. Where the Rust departs from document 01 in a known way
 (docs/DIFFERENCES.md), what document 01 wants stands behind ` | doc: `, or, where the Rust stops at a forbidden pattern, the Rust's answer
@@ -40,9 +42,13 @@ def held(who, said, wanted):
 def main():
     p = argparse.ArgumentParser(description=__doc__, formatter_class=argparse.RawDescriptionHelpFormatter)
     p.add_argument("--port", default=os.environ.get("TUZ", str(ROOT / "tuz")))
-    port = shlex.split(p.parse_args().port)
+    p.add_argument("--model", action="store_true")
+    args = p.parse_args()
+    port = shlex.split(args.port)
     wanted = [BIT.sub("", DOCUMENT.sub("", line)) for line in (FROZEN / "answers.txt").read_text().splitlines()]
     good = held("the model", list(cases(FROZEN / "cases.txt")), wanted)
+    if args.model:
+        return not good
     if not pathlib.Path(port[0]).exists() and "/" in port[0]:
         print(f"frozen: the port is SKIPPED: there is no {port[0]}; give --port or $TUZ")
         return not good

@@ -1,15 +1,15 @@
 #!/usr/bin/env python3
 """Tears recordings and checks that reports outside the damage stay the same.
 
-    tests/tears.py [--seed S] [--count N] [--list COMMAND] [CLIP ..]
+    tests/tears.py [--seed S] [--count N] [--list COMMAND | --model] [CLIP ..]
 
 Each tear turns P M S into P N S: cut off, put over (zeros, noise, bytes from elsewhere in the clip), taken out, put in, at
 places and with sizes around sectors of 512 bytes, around start codes, or anywhere. Checked on both listings:
  - units whose end mark lies wholly in P are reported the same, and no others as such;
  - units whose start code begins in S are reported the same, their places counted from the end;
  - the totals are those of the lines.
-CLIP.table beside a clip holds its parameter sets. COMMAND is asked as `COMMAND list --table FILE CLIP` ($TUZ serves too);
-without one the model in document01.py lists. A clip torn against the promise is kept, and the exit status is 1.
+CLIP.table beside a clip holds its parameter sets. COMMAND is asked as `COMMAND list --table FILE CLIP` (else $TUZ is, else ./tuz);
+with --model, the model in document01.py lists. A clip torn against the promise is kept, and the exit status is 1.
 """
 import argparse
 import os
@@ -88,7 +88,11 @@ class Lister:
     def of(self, path):
         if not self.command:
             return list(listing(self.sets, path.read_bytes()))
-        done = subprocess.run([*self.command, "list", "--table", str(self.table), str(path)], stdout=subprocess.PIPE, stderr=subprocess.DEVNULL, text=True)
+        done = subprocess.run([*self.command, "list", "--table", str(self.table), str(path)], capture_output=True, text=True)
+        if done.returncode == 2 and b"\0\0\1" not in path.read_bytes():
+            return ["end units=0 refused=0"]  # the command says that this is no recording
+        if not done.stdout:
+            raise SystemExit(f"tears: {self.command[0]}: exit status {done.returncode}: {done.stderr}")
         return done.stdout.splitlines()
 
 
@@ -96,14 +100,15 @@ def main():
     p = argparse.ArgumentParser(description=__doc__, formatter_class=argparse.RawDescriptionHelpFormatter)
     p.add_argument("--seed", default="1")
     p.add_argument("--count", type=int, default=200)
-    p.add_argument("--list", default=os.environ.get("TUZ", ""))
+    p.add_argument("--list", default=os.environ.get("TUZ", str(CLIPS.parent.parent / "tuz")))
+    p.add_argument("--model", action="store_true")
     p.add_argument("clips", nargs="*", type=pathlib.Path)
     args = p.parse_args()
     r, faults = random.Random(args.seed), 0
     with tempfile.TemporaryDirectory() as folder:
         for path in args.clips or sorted(CLIPS.glob("*.264")):
-            clip, lister = path.read_bytes(), Lister(shlex.split(args.list), path.with_suffix(".table"))
-            whole, outside, lost = reports(lister.of(path)), 0, 0
+            clip, lister = path.read_bytes(), Lister([] if args.model else shlex.split(args.list), path.with_suffix(".table"))
+            whole, outside, lost, broken = reports(lister.of(path)), 0, 0, 0
             for _ in range(args.count):
                 at, end, now, name = tear(r, clip)
                 torn = clip[:at] + now + clip[end:]
@@ -117,8 +122,10 @@ def main():
                     kept = pathlib.Path(tempfile.gettempdir()) / f"torn-{path.stem}-{at}.264"
                     kept.write_bytes(torn)
                     print(f"tears: {path.name}: {name}: reports outside the damage differ; kept as {kept}")
-                    faults += 1
-            print(f"tears: {path.name}: {args.count} tears, {outside} reports outside the damage, all the same: {not faults}; {lost / args.count:.1f} of {len(whole)} units touched by a tear")
+                    broken += 1
+            faults += broken
+            same = "all the same" if not broken else f"NOT the same after {broken} tears"
+            print(f"tears: {path.name}: {args.count} tears, {outside:,} reports outside the damage, {same}; a tear touches {lost / args.count:.1f} of {len(whole)} units")
     return 1 if faults else 0
 
 

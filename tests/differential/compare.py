@@ -106,13 +106,17 @@ class Tally:
     def __init__(self):
         self.answers, self.fields, self.groups, self.smallest, self.faults = collections.Counter(), collections.Counter(), collections.Counter(), {}, []
 
+    @staticmethod
+    def is_fault(c):
+        return c.said != c.wanted or c.group.startswith("unknown")
+
     def take(self, cases):
         for c in cases:
             self.answers[key_of(c.said)] += 1
             self.groups[c.group] += 1
             if c.said[0] in "sp":
                 self.fields.update(w.partition("=")[0] for w in c.said.split()[1:])
-            if c.said != c.wanted or c.group.startswith("unknown"):
+            if self.is_fault(c):
                 self.faults.append(c)
             if c.group != AGREED and len(c.line) < len(self.smallest.get(c.group, c).line) + (c.group not in self.smallest):
                 self.smallest[c.group] = c
