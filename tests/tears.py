@@ -7,9 +7,10 @@ Each tear turns P M S into P N S: cut off, put over (zeros, noise, bytes from el
 places and with sizes around sectors of 512 bytes, around start codes, or anywhere. Checked on both listings:
  - units whose end mark lies wholly in P are reported the same, and no others as such;
  - units whose start code begins in S are reported the same, their places counted from the end;
- - the totals are those of the lines.
+ - the totals are those of the lines;
+ - a torn clip's listing is, line by line, the one that document01.py works out.
 CLIP.table beside a clip holds its parameter sets. COMMAND is asked as `COMMAND list --table FILE CLIP` (else $TUZ is, else ./tuz);
-with --model, the model in document01.py lists. A clip torn against the promise is kept, and the exit status is 1.
+with --model, document01.py itself lists. A clip torn against the promise is kept, and the exit status is 1.
 """
 import argparse
 import os
@@ -114,17 +115,20 @@ def main():
                 torn = clip[:at] + now + clip[end:]
                 file = pathlib.Path(folder) / "torn.264"
                 file.write_bytes(torn)
-                found = reports(lister.of(file))
+                lines = lister.of(file)
+                found = reports(lines)
                 before, after = early(whole, clip, at), late(whole, clip, end)
                 outside += len(before) + len(after)
                 lost += len(whole) - len(before) - len(after)
-                if before != early(found, torn, at) or after != late(found, torn, at + len(now)):
+                same = before == early(found, torn, at) and after == late(found, torn, at + len(now))
+                if not same or lines != list(listing(lister.sets, torn)):
                     kept = pathlib.Path(tempfile.gettempdir()) / f"torn-{path.stem}-{at}.264"
                     kept.write_bytes(torn)
-                    print(f"tears: {path.name}: {name}: reports outside the damage differ; kept as {kept}")
+                    what = "the listing is not the model's" if same else "reports outside the damage differ"
+                    print(f"tears: {path.name}: {name}: {what}; kept as {kept}")
                     broken += 1
             faults += broken
-            same = "all the same" if not broken else f"NOT the same after {broken} tears"
+            same = "all the same" if not broken else f"NOT as promised after {broken} tears"
             print(f"tears: {path.name}: {args.count} tears, {outside:,} reports outside the damage, {same}; a tear touches {lost / args.count:.1f} of {len(whole)} units")
     return 1 if faults else 0
 

@@ -1,15 +1,18 @@
-"""Cases without a gap: every unit of at most 3 bytes, and every 12 bits where a field of many headers starts."""
+"""Cases without a gap: every unit of at most 3 bytes, every 12 bits where a field of many headers starts, every bit of the clips' headers."""
 import itertools
+import pathlib
 import random
 
 from codes import escaped, packed
-from document01 import table_of
+from document01 import table_of, units
 from headers import slice_pieces
 from sets import drawn_table
 
+CLIPS = pathlib.Path(__file__).resolve().parent.parent / "clips"
 AT_ONCE = 500_000
 STARTS = 300
 WINDOW = 12
+FIRST = 24  # bytes of a clip's unit
 
 # Tables for two bytes of body: narrow fields, and the seven picture sets that three bits or five reach, each with other fields.
 PICTURES = (
@@ -66,5 +69,23 @@ def deep():
             for value in range(2**WINDOW):
                 body = packed(f"{bits}{value:0{WINDOW}b}1011011101")
                 yield f"{words} {(front + escaped(body)).hex()}"
+
+    yield from batched(lines())
+
+
+def clips():
+    """The units of tests/clips, whole, cut after each of their first bytes, and with each bit of these flipped."""
+
+    def lines():
+        for clip in sorted(CLIPS.glob("*.264")):
+            words = " ".join(clip.with_suffix(".table").read_text().split())
+            for _, unit in units(clip.read_bytes()):
+                yield f"{words} {unit.hex()}"
+                start = unit[:FIRST]
+                for n in range(1, len(start)):
+                    yield f"{words} {start[:n].hex()}"
+                for i in range(8 * len(start)):
+                    flipped = int.from_bytes(start, "big") ^ 1 << i
+                    yield f"{words} {flipped.to_bytes(len(start), 'big').hex()}"
 
     yield from batched(lines())
