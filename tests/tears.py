@@ -129,7 +129,8 @@ def main():
                     broken += 1
             faults += broken
             same = "all the same" if not broken else f"NOT as promised after {broken} tears"
-            print(f"tears: {path.name}: {args.count} tears, {outside:,} reports outside the damage, {same}; a tear touches {lost / args.count:.1f} of {len(whole)} units")
+            touched = f"a tear touches {lost / args.count:.1f} of {len(whole)} units"
+            print(f"tears: {path.name}: {args.count} tears, {outside:,} reports outside the damage, {same}; {touched}")
     return 1 if faults else 0
 
 

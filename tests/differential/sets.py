@@ -45,15 +45,33 @@ def drawn_picture(r, id, sequence_id):
     )
 
 
+SEQUENCE_BEYOND = {
+    "id": (32,),
+    "chroma_format_idc": (4,),
+    "bit_depth_luma_minus8": (7,),
+    "log2_max_frame_num": (3, 17),
+    "pic_order_cnt_type": (3,),
+    "log2_max_pic_order_cnt_lsb_minus4": (13,),
+    "pic_size_in_map_units": (0, 16_777_217),
+    "separate_colour_plane_flag": (1,),
+}
+PICTURE_BEYOND = {
+    "id": (256,),
+    "sps_id": (32,),
+    "num_ref_idx_l0_default_active_minus1": (32,),
+    "num_ref_idx_l1_default_active_minus1": (32,),
+    "weighted_bipred_idc": (3,),
+    "pic_init_qp_minus26": (-63, 26),
+    "pic_init_qs_minus26": (-27, 26),
+    "change_rate": (16_777_217,),
+}
+
+
 def out_of_range(r, held):
     """The set with one field beyond document 01's sizes."""
-    if isinstance(held, Sequence):
-        bad = dict(id=32, chroma_format_idc=4, bit_depth_luma_minus8=7, log2_max_frame_num=r.choice((3, 17)), pic_order_cnt_type=3, log2_max_pic_order_cnt_lsb_minus4=13, pic_size_in_map_units=r.choice((0, 16_777_217)))
-        bad["separate_colour_plane_flag"] = 1
-    else:
-        bad = dict(id=256, sps_id=32, num_ref_idx_l0_default_active_minus1=32, num_ref_idx_l1_default_active_minus1=32, weighted_bipred_idc=3, pic_init_qp_minus26=r.choice((-63, 26)), pic_init_qs_minus26=r.choice((-27, 26)), change_rate=16_777_217)
-    field = r.choice(sorted(bad))
-    held = held._replace(**{field: bad[field]})
+    beyond = SEQUENCE_BEYOND if isinstance(held, Sequence) else PICTURE_BEYOND
+    field = r.choice(sorted(beyond))
+    held = held._replace(**{field: r.choice(beyond[field])})
     return held._replace(chroma_format_idc=2) if field == "separate_colour_plane_flag" else held
 
 

@@ -47,6 +47,13 @@ def torn_pieces(r, pieces):
     return pieces[:i] + [ue(r.getrandbits(r.randint(1, 32)))] + pieces[i + 1 :]
 
 
+def soup(r, pieces):
+    """A header's start, then any bits: many ones, so that codes are short, or as many zeros."""
+    n = r.randint(20, 300)
+    bits = r.getrandbits(n) | r.getrandbits(n) if r.getrandbits(1) else r.getrandbits(n)
+    return pieces[: r.randint(min(3, len(pieces)), len(pieces))] + [format(bits, f"0{n}b")]
+
+
 def damaged(r, unit):
     """Bits flipped, bytes cut off, put in, put over, repeated or added; escapes taken away."""
     unit = bytearray(unit)
@@ -119,6 +126,8 @@ def drawn_unit(r, table):
         pieces = zero_run(r, pieces)
     elif y < 0.12:
         pieces = torn_pieces(r, pieces)
+    elif y < 0.18:
+        pieces = soup(r, pieces)
     unit = bytes([ref_idc << 5 | kind]) + ext + escaped(packed("".join(pieces) + tail(r)))
     z = r.random()
     if z < 0.0001:
