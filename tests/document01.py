@@ -5,12 +5,14 @@ document01.py cases FILE               an answer line for each case line
 document01.py list [--table FILE] CLIP a listing; FILE holds sps: and pps: words, else the sample sets serve
 The formats are those of the command `tuz`: docs/CASES.md.
 """
+import re
 import sys
 from typing import NamedTuple
 
 LIMIT = 268_435_456
 ENTRIES = 66
 P, B, I, SP, SI = range(5)
+END_MARK = re.compile(rb"\0\0[\0\1]")
 
 
 class Refused(Exception):
@@ -330,9 +332,9 @@ def units(recording):
     at = recording.find(b"\0\0\1")
     while at >= 0:
         place = at + 3
-        marks = [m for m in (recording.find(b"\0\0\0", place), recording.find(b"\0\0\1", place)) if m >= 0]
-        end = min(marks) if marks else len(recording)
-        yield place, recording[place:end] if marks else recording[place:].rstrip(b"\0")
+        mark = END_MARK.search(recording, place)
+        end = mark.start() if mark else len(recording)
+        yield place, recording[place:end] if mark else recording[place:].rstrip(b"\0")
         at = recording.find(b"\0\0\1", end)
 
 
