@@ -6,7 +6,9 @@ Everything else that differs is a fault of one side.
 import collections
 import pathlib
 import re
+import shutil
 import subprocess
+import tempfile
 
 from codes import escaped
 from document01 import unescaped
@@ -35,7 +37,7 @@ def group_of(rust):
 
 
 def key_of(answer):
-    words = answer.split()
+    words = answer.split() or ["nothing"]
     return " ".join(words[:2]) if words[0] == "refused" else words[0]
 
 
@@ -55,7 +57,7 @@ class Sides:
         self.rust_words, self.seen = {}, set()
 
     def front(self, words):
-        """The oracle's words for a table; each new table is looked at once, as the Rust holds it."""
+        """The oracle's words for a table."""
         if words not in self.rust_words:
             self.rust_words[words] = "".join(w + " " for w in for_rust(words.split()))
         return self.rust_words[words]
@@ -66,7 +68,8 @@ class Sides:
         done = subprocess.run([*command, str(path)], stdout=subprocess.PIPE, text=True)
         said = (done.stdout if self.bits else BIT.sub("", done.stdout)).splitlines()
         if len(said) != len(lines):
-            raise SystemExit(f"{command[0]}: {len(said)} answers to {len(lines)} cases, exit status {done.returncode}; the cases are in {path}")
+            kept = shutil.copy(path, pathlib.Path(tempfile.gettempdir()) / "unanswered-cases")
+            raise SystemExit(f"{command[0]}: {len(said)} answers to {len(lines)} cases, exit status {done.returncode}; kept as {kept}")
         return said
 
     def rust(self, lines, command=("run", "--trace")):
@@ -104,7 +107,8 @@ class Tally:
     """Counts by answer, by field and by class, and the faults."""
 
     def __init__(self):
-        self.answers, self.fields, self.groups, self.smallest, self.faults = collections.Counter(), collections.Counter(), collections.Counter(), {}, []
+        self.answers, self.fields, self.groups = collections.Counter(), collections.Counter(), collections.Counter()
+        self.smallest, self.faults = {}, []
 
     @staticmethod
     def is_fault(c):
@@ -114,7 +118,7 @@ class Tally:
         for c in cases:
             self.answers[key_of(c.said)] += 1
             self.groups[c.group] += 1
-            if c.said[0] in "sp":
+            if c.said.startswith(("slice", "prefix")):
                 self.fields.update(w.partition("=")[0] for w in c.said.split()[1:])
             if self.is_fault(c):
                 self.faults.append(c)
