@@ -39,6 +39,16 @@ def held(who, said, wanted):
     return not faults
 
 
+def listed():
+    """Whether each unit that docs/DIFFERENCES.md names is among the cases."""
+    text = (ROOT / "docs/DIFFERENCES.md").read_text()
+    units = {line.split()[-1] for line in (FROZEN / "cases.txt").read_text().splitlines()}
+    missing = [u for u in re.findall(r"`((?:[0-9a-f]{2})+)`", text) if u not in units]
+    for unit in missing:
+        print(f"frozen: docs/DIFFERENCES.md names {unit}, which no case has")
+    return not missing
+
+
 def main():
     p = argparse.ArgumentParser(description=__doc__, formatter_class=argparse.RawDescriptionHelpFormatter)
     p.add_argument("--port", default=os.environ.get("TUZ", str(ROOT / "tuz")))
@@ -46,7 +56,7 @@ def main():
     args = p.parse_args()
     port = shlex.split(args.port)
     wanted = [BIT.sub("", DOCUMENT.sub("", line)) for line in (FROZEN / "answers.txt").read_text().splitlines()]
-    good = held("the model", list(cases(FROZEN / "cases.txt")), wanted)
+    good = listed() & held("the model", list(cases(FROZEN / "cases.txt")), wanted)
     if args.model:
         return not good
     if not pathlib.Path(port[0]).exists() and "/" in port[0]:
