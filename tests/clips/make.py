@@ -1,0 +1,60 @@
+#!/usr/bin/env python3
+"""Makes the clips of this folder anew: a night sky of our own with a comet passing, by x264 (Debian package x264).
+
+make.py [FOLDER]   writes NAME.264 and NAME.table for each clip
+x264's output depends on its version (see README.md); the tests do not depend on these very bytes.
+"""
+import pathlib
+import random
+import subprocess
+import sys
+
+HERE = pathlib.Path(__file__).resolve().parent
+sys.path.insert(0, str(HERE.parent))
+
+from parameter_sets import words_of  # noqa: E402
+
+WIDTH, HEIGHT = 176, 144
+COMMON = ["--quiet", "--no-progress", "--threads", "1", "--demuxer", "y4m"]
+CLIPS = {
+    # CABAC, B slices, weights in both directions, four slices a picture
+    "comet": (48, ["--profile", "high", "--preset", "slow", "--crf", "21", "--keyint", "24", "--slices", "4", "--bframes", "3", "--weightp", "2", "--aud"]),
+    # CAVLC, P slices alone, redundant intra refresh, one IDR picture, slices of at most 700 bytes
+    "plain": (48, ["--profile", "baseline", "--crf", "22", "--keyint", "200", "--intra-refresh", "--slice-max-size", "700", "--ref", "3"]),
+    # fields allowed (frame_mbs_only_flag 0), order counts of both fields, reordered reference lists
+    "fields": (24, ["--profile", "main", "--tff", "--crf", "20", "--keyint", "12", "--ref", "4", "--bframes", "2", "--b-pyramid", "strict"]),
+}
+
+
+def sky(frames):
+    """A 4:2:0 recording in YUV4MPEG2: stars that flicker, noise, cloud that comes and goes, and a comet with a tail."""
+    r = random.Random("comet")
+    stars = [(r.randrange(WIDTH), r.randrange(HEIGHT), r.randint(40, 200)) for _ in range(70)]
+    yield f"YUV4MPEG2 W{WIDTH} H{HEIGHT} F25:1 Ip C420jpeg\n".encode()
+    for f in range(frames):
+        cloud = 0.5 + 0.5 * abs(1 - f / 24)
+        glow = int(60 * cloud)
+        luma = bytearray(glow + r.getrandbits(3) for _ in range(WIDTH * HEIGHT))
+        for x, y, light in stars:
+            luma[y * WIDTH + x] = min(255, glow + int(light * cloud * r.uniform(0.8, 1)))
+        for tail in range(24, -1, -1):
+            x, y = 20 + 2.5 * f - tail * 1.2, 30 + 1.4 * f - tail * 0.8
+            for dx in range(-2, 3):
+                for dy in range(-2, 3):
+                    px, py, light = int(x) + dx, int(y) + dy, int(210 * cloud / (1 + tail / 5) / (1 + dx * dx + dy * dy))
+                    if 0 <= px < WIDTH and 0 <= py < HEIGHT:
+                        luma[py * WIDTH + px] = max(luma[py * WIDTH + px], min(255, glow + light))
+        chroma = bytes([130]) * (WIDTH * HEIGHT // 4) + bytes([126]) * (WIDTH * HEIGHT // 4)
+        yield b"FRAME\n" + bytes(luma) + chroma
+
+
+def main():
+    folder = pathlib.Path(sys.argv[1]) if len(sys.argv) > 1 else HERE
+    for name, (frames, options) in CLIPS.items():
+        clip = folder / f"{name}.264"
+        subprocess.run(["x264", *COMMON, *options, "-o", str(clip), "-"], input=b"".join(sky(frames)), check=True)
+        (folder / f"{name}.table").write_text("\n".join(words_of(clip.read_bytes())) + "\n")
+        print(f"{clip}: {clip.stat().st_size:,} bytes")
+
+
+main()

@@ -1,0 +1,380 @@
+#!/usr/bin/env python3
+"""Document 01's reading of units and recordings in plain Python, with no line of the library and none of the Rust.
+
+document01.py cases FILE               an answer line for each case line
+document01.py list [--table FILE] CLIP a listing; FILE holds sps: and pps: words, else the sample sets serve
+The formats are those of the command `tuz`: docs/CASES.md.
+"""
+import re
+import sys
+from typing import NamedTuple
+
+LIMIT = 268_435_456
+ENTRIES = 66
+P, B, I, SP, SI = range(5)
+END_MARK = re.compile(rb"\0\0[\0\1]")
+
+
+class Refused(Exception):
+    """The refusal's number and value."""
+
+
+class Sequence(NamedTuple):
+    id: int
+    chroma_format_idc: int
+    separate_colour_plane_flag: int
+    bit_depth_luma_minus8: int
+    log2_max_frame_num: int
+    pic_order_cnt_type: int
+    log2_max_pic_order_cnt_lsb_minus4: int
+    delta_pic_order_always_zero_flag: int
+    frame_mbs_only_flag: int
+    pic_size_in_map_units: int
+
+    def good(self):
+        return (
+            0 <= self.id <= 31
+            and 0 <= self.chroma_format_idc <= 3
+            and self.separate_colour_plane_flag <= (self.chroma_format_idc == 3)
+            and 0 <= self.bit_depth_luma_minus8 <= 6
+            and 4 <= self.log2_max_frame_num <= 16
+            and 0 <= self.pic_order_cnt_type <= 2
+            and 0 <= self.log2_max_pic_order_cnt_lsb_minus4 <= 12
+            and 1 <= self.pic_size_in_map_units <= 16_777_216
+        )
+
+    def word(self):
+        return "sps:" + ":".join(map(str, self))
+
+
+class Picture(NamedTuple):
+    id: int
+    sps_id: int
+    entropy_coding_mode_flag: int
+    bottom_field_pic_order_in_frame_present_flag: int
+    num_ref_idx_l0_default_active_minus1: int
+    num_ref_idx_l1_default_active_minus1: int
+    weighted_pred_flag: int
+    weighted_bipred_idc: int
+    pic_init_qp_minus26: int
+    pic_init_qs_minus26: int
+    deblocking_filter_control_present_flag: int
+    redundant_pic_cnt_present_flag: int
+    change_rate: int
+
+    def good(self):
+        return (
+            0 <= self.id <= 255
+            and 0 <= self.sps_id <= 31
+            and 0 <= self.num_ref_idx_l0_default_active_minus1 <= 31
+            and 0 <= self.num_ref_idx_l1_default_active_minus1 <= 31
+            and 0 <= self.weighted_bipred_idc <= 2
+            and -62 <= self.pic_init_qp_minus26 <= 25
+            and -26 <= self.pic_init_qs_minus26 <= 25
+            and 0 <= self.change_rate <= 16_777_216
+        )
+
+    def word(self):
+        return "pps:" + ":".join(map(str, self))
+
+
+SAMPLE = "sps:0:1:0:0:4:2:0:0:1:99 pps:0:0:0:0:0:0:0:0:0:0:0:0:0"
+
+
+def set_of(word):
+    kind, *fields = word.split(":")
+    return (Sequence if kind == "sps" else Picture)(*map(int, fields))
+
+
+def table_of(words):
+    """The table that the words fill: a set out of range leaves it as it was."""
+    table = {}
+    for word in words:
+        held = set_of(word)
+        if held.good():
+            table[word[:3], held.id] = held
+    return table
+
+
+class Body:
+    """The bits of an unescaped body, and a place in them."""
+
+    def __init__(self, data):
+        self.bits = format(int.from_bytes(data, "big"), f"0{8 * len(data)}b") if data else ""
+        self.at = 0
+
+    def u(self, n):
+        end = self.at + n
+        if end > len(self.bits):
+            raise Refused(5, 0)
+        value = int(self.bits[self.at : end], 2) if n else 0
+        self.at = end
+        return value
+
+    def ue(self):
+        one = self.bits.find("1", self.at, self.at + 32)
+        if one < 0:
+            raise Refused(6 if len(self.bits) - self.at >= 32 else 5, 0)
+        zeros = one - self.at
+        self.at = one + 1
+        return 2**zeros - 1 + self.u(zeros)
+
+    def se(self):
+        k = self.ue()
+        return (k + 1) // 2 if k & 1 else -(k // 2)
+
+    def ue_up_to(self, most, number):
+        value = self.ue()
+        if value > most:
+            raise Refused(number, value)
+        return value
+
+    def more(self):
+        """A set bit stands strictly after the next bit."""
+        return self.bits.find("1", self.at + 1) >= 0
+
+
+def unescaped(data):
+    """Without each 03 after two zeros that come after any earlier dropped one."""
+    return data.replace(b"\0\0\3", b"\0\0")
+
+
+MVC = [("non_idr_flag", 1), ("priority_id", 6), ("view_id", 10), ("temporal_id", 3), ("anchor_pic_flag", 1), ("inter_view_flag", 1)]
+SVC = [
+    ("idr_flag", 1),
+    ("priority_id", 6),
+    ("no_inter_layer_pred_flag", 1),
+    ("dependency_id", 3),
+    ("quality_id", 4),
+    ("temporal_id", 3),
+    ("use_ref_base_pic_flag", 1),
+    ("discardable_flag", 1),
+    ("output_flag", 1),
+]
+
+
+def extension_words(three):
+    bits = Body(three)
+    svc = bits.u(1)
+    return ["ext=svc" if svc else "ext=mvc"] + [f"{name}={bits.u(n)}" for name, n in (SVC if svc else MVC)]
+
+
+def joined(entries):
+    return ",".join(":".join(map(str, e)) for e in entries) or "-"
+
+
+def operations(b, closing, most, number, operands, refused=()):
+    """A list up to its closing code; operands: how many each code has."""
+    entries = []
+    while True:
+        code = b.ue_up_to(most, number)
+        if code in refused:
+            raise Refused(number, code)
+        if code == closing:
+            return entries
+        if len(entries) == ENTRIES:
+            raise Refused(14, 0)
+        entries.append([code] + [b.ue() for _ in range(operands[code])])
+
+
+def weights(b, count, chroma):
+    entries = []
+    for _ in range(count):
+        entry = f"{b.se()}:{b.se()}" if b.u(1) else "-"
+        if chroma:
+            entry += "/" + (":".join(str(b.se()) for _ in range(4)) if b.u(1) else "-")
+        entries.append(entry)
+    return ",".join(entries)
+
+
+def change_cycle_width(size, rate):
+    width = 0
+    while 2**width * rate < size + rate:
+        width += 1
+    return width
+
+
+def slice_header(b, table, ref_idc, kind, extension):
+    """The words of a slice's header, from first_mb_in_slice on."""
+    words = []
+
+    def put(name, value):
+        words.append(f"{name}={value}")
+        return value
+
+    svc = kind >= 20 and extension[0] & 0x80
+    mvc = kind >= 20 and not svc
+    put("first_mb_in_slice", b.ue())
+    family = put("slice_type", b.ue_up_to(9, 7)) % 5
+    id = put("pic_parameter_set_id", b.ue_up_to(255, 8))
+    pic = table.get(("pps", id))
+    if pic is None:
+        raise Refused(9, id)
+    seq = table.get(("sps", pic.sps_id))
+    if seq is None:
+        raise Refused(10, pic.sps_id)
+    put("seq_parameter_set_id", pic.sps_id)
+    if seq.separate_colour_plane_flag:
+        if put("colour_plane_id", b.u(2)) == 3:
+            raise Refused(11, 3)
+    put("frame_num", b.u(seq.log2_max_frame_num))
+    field = 0
+    if not seq.frame_mbs_only_flag:
+        field = put("field_pic_flag", b.u(1))
+        if field:
+            put("bottom_field_flag", b.u(1))
+    idr = kind == 5 or mvc and not extension[0] & 0x40
+    if idr:
+        put("idr_pic_id", b.ue())
+    both = pic.bottom_field_pic_order_in_frame_present_flag and not field
+    if seq.pic_order_cnt_type == 0:
+        put("pic_order_cnt_lsb", b.u(seq.log2_max_pic_order_cnt_lsb_minus4 + 4))
+        if both:
+            put("delta_pic_order_cnt_bottom", b.se())
+    if seq.pic_order_cnt_type == 1:
+        read = not seq.delta_pic_order_always_zero_flag
+        put("delta_pic_order_cnt", f"{b.se() if read else 0}:{b.se() if read and both else 0}")
+    if pic.redundant_pic_cnt_present_flag:
+        put("redundant_pic_cnt", b.ue())
+    if family == B:
+        put("direct_spatial_mv_pred_flag", b.u(1))
+    active = [pic.num_ref_idx_l0_default_active_minus1, pic.num_ref_idx_l1_default_active_minus1]
+    lists = {P: 1, SP: 1, B: 2}.get(family, 0)
+    if lists and put("num_ref_idx_active_override_flag", b.u(1)):
+        for i in range(lists):
+            active[i] = put(f"num_ref_idx_l{i}_active_minus1", b.ue_up_to(31, 21))
+    if svc:
+        raise Refused(13, 0)
+    flags = []
+    for i in range(lists):
+        flags.append(f"ref_pic_list_modification_flag_l{i}={b.u(1)}")
+        moves = []
+        if flags[i][-1] == "1":
+            moves = operations(b, 3, 5, 12, [1, 1, 1, 0, 1, 1], () if mvc else (4, 5))
+        put(f"mods_l{i}", joined(moves))
+    if pic.weighted_pred_flag and family in (P, SP) or pic.weighted_bipred_idc == 1 and family == B:
+        chroma = seq.chroma_format_idc and not seq.separate_colour_plane_flag
+        put("luma_log2_weight_denom", b.ue())
+        if chroma:
+            put("chroma_log2_weight_denom", b.ue())
+        for i in range(lists):
+            put(f"weights_l{i}", weights(b, active[i] + 1, chroma))
+    if ref_idc and idr:
+        put("no_output_of_prior_pics_flag", b.u(1))
+        put("long_term_reference_flag", b.u(1))
+    elif ref_idc and put("adaptive_ref_pic_marking_mode_flag", b.u(1)):
+        put("mmco", joined(operations(b, 0, 6, 15, [0, 1, 1, 2, 1, 0, 1])))
+    if pic.entropy_coding_mode_flag and family not in (I, SI):
+        put("cabac_init_idc", b.ue())
+    delta = put("slice_qp_delta", b.se())
+    if not -6 * seq.bit_depth_luma_minus8 <= 26 + pic.pic_init_qp_minus26 + delta <= 51:
+        raise Refused(16, delta)
+    if family == SP:
+        put("sp_for_switch_flag", b.u(1))
+    if family in (SP, SI):
+        delta = put("slice_qs_delta", b.se())
+        if not 0 <= 26 + pic.pic_init_qs_minus26 + delta <= 51:
+            raise Refused(17, delta)
+    if pic.deblocking_filter_control_present_flag:
+        if put("disable_deblocking_filter_idc", b.ue_up_to(6, 18)) != 1:
+            for name, number in ("slice_alpha_c0_offset_div2", 19), ("slice_beta_offset_div2", 20):
+                if not -6 <= put(name, value := b.se()) <= 6:
+                    raise Refused(number, value)
+    if pic.change_rate:
+        put("slice_group_change_cycle", b.u(change_cycle_width(seq.pic_size_in_map_units, pic.change_rate)))
+    if not b.more():
+        raise Refused(22, 0)
+    return words + flags + [f"bits={b.at}"]
+
+
+def prefix_body(b):
+    words = [f"store_ref_base_pic_flag={b.u(1)}"]
+    if words[0][-1] == "1":
+        words.append(f"base_mmco={joined(operations(b, 0, 2, 23, [0, 1, 1]))}")
+    return words + [f"additional_prefix_nal_unit_extension_flag={b.u(1)}"]
+
+
+def answer(table, unit):
+    """The answer line for a whole unit."""
+    try:
+        return answered(table, unit)
+    except Refused as r:
+        return "refused {} value={}".format(*r.args)
+
+
+def answered(table, unit):
+    if len(unit) > LIMIT:
+        raise Refused(27, 0)
+    if not unit:
+        raise Refused(1, 0)
+    if unit[0] & 0x80:
+        raise Refused(2, 0)
+    ref_idc, kind = unit[0] >> 5, unit[0] & 31
+    if kind not in (1, 5, 14, 20, 21):
+        return f"other type={kind}"
+    if kind >= 14 and len(unit) < 4:
+        raise Refused(4, 0)
+    extension, rest = (unit[1:4], unit[4:]) if kind >= 14 else (b"", unit[1:])
+    words = [f"nal_ref_idc={ref_idc}"]
+    if kind == 14:
+        words += extension_words(extension)
+        if ref_idc and extension[0] & 0x80:
+            words += prefix_body(Body(unescaped(rest)))
+        return " ".join(["prefix"] + words)
+    words.append(f"nal_unit_type={kind}")
+    if extension:
+        words += extension_words(extension)
+    return " ".join(["slice"] + words + slice_header(Body(unescaped(rest)), table, ref_idc, kind, extension))
+
+
+def units(recording):
+    """Place and bytes of each unit: after a start code, up to the first 00 00 00 or 00 00 01, or the end without its zeros."""
+    at = recording.find(b"\0\0\1")
+    while at >= 0:
+        place = at + 3
+        mark = END_MARK.search(recording, place)
+        end = mark.start() if mark else len(recording)
+        yield place, recording[place:end] if mark else recording[place:].rstrip(b"\0")
+        at = recording.find(b"\0\0\1", end)
+
+
+def listing(table, recording):
+    """The lines of a listing, the last one with the totals."""
+    count = refused = 0
+    for place, unit in units(recording):
+        line = answer(table, unit)
+        said = dict(w.split("=") for w in line.split() if "=" in w)
+        if line.startswith("slice"):
+            qp = 26 + table["pps", int(said["pic_parameter_set_id"])].pic_init_qp_minus26 + int(said["slice_qp_delta"])
+            line = f"slice type={said['slice_type']} frame={said['frame_num']} qp={qp}"
+        elif line.startswith("prefix"):
+            line = f"prefix ext={said['ext']}"
+        count += 1
+        refused += line.startswith("refused")
+        yield f"unit place={place} length={len(unit)} {line}"
+    yield f"end units={count} refused={refused}"
+
+
+def cases(path):
+    """The answer lines for a case file."""
+    before, table = None, {}
+    for line in open(path):
+        if line[0] in "#\n":
+            continue
+        *words, unit = line.split()
+        if words != before:
+            before, table = words, table_of(words)
+        yield answer(table, b"" if unit == "-" else bytes.fromhex(unit))
+
+
+def main(command, *words):
+    if command == "cases":
+        lines = cases(words[0])
+    else:
+        given = open(words[1]).read().split() if words[0] == "--table" else SAMPLE.split()
+        lines = listing(table_of(given), open(words[-1], "rb").read())
+    sys.stdout.writelines(line + "\n" for line in lines)
+
+
+if __name__ == "__main__":
+    main(*sys.argv[1:])

@@ -1,0 +1,69 @@
+#!/usr/bin/env python3
+"""Replays tests/frozen: thousands of cases with the answers of h264-reader 0.9.0, which need none of its sources.
+
+    tests/frozen.py [--port COMMAND | --model]
+
+COMMAND answers `COMMAND cases FILE`; else $TUZ does, else ./tuz. The model in document01.py is held to them too; --model: it alone.
+
+A line of answers.txt is the Rust's answer, as tests/oracle prints it. Where the Rust departs from document 01 in a known way
+(docs/DIFFERENCES.md), what document 01 wants stands behind ` | doc: `, or, where the Rust stops at a forbidden pattern, the Rust's answer
+to the same body, escaped, behind ` | escaped: `.
+"""
+import argparse
+import os
+import pathlib
+import re
+import shlex
+import subprocess
+import sys
+
+from document01 import cases
+
+ROOT = pathlib.Path(__file__).resolve().parent.parent
+FROZEN = ROOT / "tests/frozen"
+BIT = re.compile(r" bit=\d+")  # the places of M-103, not compared yet
+DOCUMENT = re.compile(r".* \| (?:doc|escaped): ")
+
+
+def held(who, said, wanted):
+    """Whether all lines agree; the first that do not are printed."""
+    lines = [line for line in (FROZEN / "cases.txt").read_text().splitlines() if not line.startswith("#")]
+    faults = [(line, s, w) for line, s, w in zip(lines, said, wanted) if s != w]
+    for line, s, w in sorted(faults, key=lambda f: len(f[0]))[:5]:
+        print(f"frozen: {line}\n    {who}: {s}\n    wanted: {w}")
+    if len(said) != len(wanted):
+        print(f"frozen: {who} answers {len(said)} lines to {len(wanted)} cases")
+        return False
+    apart = sum(" | " in line for line in (FROZEN / "answers.txt").read_text().splitlines())
+    print(f"frozen: {who}: {len(wanted)} cases, {len(faults)} differ; at {apart} of them the Rust departs in a known way")
+    return not faults
+
+
+def listed():
+    """Whether each unit that docs/DIFFERENCES.md names is among the cases."""
+    text = (ROOT / "docs/DIFFERENCES.md").read_text()
+    units = {line.split()[-1] for line in (FROZEN / "cases.txt").read_text().splitlines()}
+    missing = [u for u in re.findall(r"`((?:[0-9a-f]{2})+)`", text) if u not in units]
+    for unit in missing:
+        print(f"frozen: docs/DIFFERENCES.md names {unit}, which no case has")
+    return not missing
+
+
+def main():
+    p = argparse.ArgumentParser(description=__doc__, formatter_class=argparse.RawDescriptionHelpFormatter)
+    p.add_argument("--port", default=os.environ.get("TUZ", str(ROOT / "tuz")))
+    p.add_argument("--model", action="store_true")
+    args = p.parse_args()
+    port = shlex.split(args.port)
+    wanted = [BIT.sub("", DOCUMENT.sub("", line)) for line in (FROZEN / "answers.txt").read_text().splitlines()]
+    good = listed() & held("the model", list(cases(FROZEN / "cases.txt")), wanted)
+    if args.model:
+        return not good
+    if not pathlib.Path(port[0]).exists() and "/" in port[0]:
+        print(f"frozen: the port is SKIPPED: there is no {port[0]}; give --port or $TUZ")
+        return not good
+    done = subprocess.run([*port, "cases", str(FROZEN / "cases.txt")], stdout=subprocess.PIPE, text=True)
+    return not (held("the port", BIT.sub("", done.stdout).splitlines(), wanted) and good)
+
+
+sys.exit(main())
