@@ -7,7 +7,7 @@ use Rattle.fmt.specs.Fmt.{nothing, seq, shaped, test, when, times, until}
 use Rattle.fmt.specs.Leaves.{flag, u, ue, se}
 use Rattle.fmt.specs.Arrays.{pad}
 use Rattle.table.specs.Sets.{all, sequenceFits, pictureFits}
-use Rattle.table.specs.Tables.{sequencePut, picturePut, sequenceIn, pictureIn, sequenceEntry, pictureEntry, sequenceOf, pictureOf, sequenceWords, pictureWords}
+use Rattle.table.specs.Tables.{sequencePut, picturePut, sequenceIn, pictureIn, sequenceEntry, pictureEntry, sequenceOf, pictureOf, sequenceMarks, sequenceWords, pictureMarks, pictureWords}
 use Rattle.syntax.specs.Marks.{numberIf, signedIf, flagIf, given}
 use Rattle.syntax.specs.Lists.{toOperations, operations, operationsIf}
 use Rattle.syntax.specs.Context.{pictureFor, sequenceIdFor, sequenceFor, contextFor}
@@ -23,5 +23,5 @@ use Rattle.walk.specs.Walked.{nothing as no-unit, walked}
 use Rattle.promises.specs.Marked.{All, marked}
 
 pub marked-hold : All marked
-unfolding leastFrom changeCycleWidth all readHeader header parts lead sliceType pictureSetId frame orderCount deltas activeCounts modifications notScalable modification predWeightTable weightList weight decRefPicMarking quantiser filter numberIf signedIf flagIf given operationsIf operations nothing seq shaped test when times until flag u ue se fixedAt suffixAt codeAt ueAt seOf bitsOf bytesBits digits numberOf pictureFor sequenceIdFor sequenceFor contextFor sequenceFits pictureFits sequencePut picturePut sequenceIn pictureIn sequenceEntry pictureEntry sequenceOf pictureOf sequenceWords pictureWords sampleTable toOperations pad typeOf forbiddenZeroBitOf nalRefIdc nalUnitType headerFrom headerOf kindOf typed begun inBody sliceBits unitRead lenOf unitAt firstFrom nextUnit no-unit walked
+unfolding leastFrom changeCycleWidth all readHeader header parts lead sliceType pictureSetId frame orderCount deltas activeCounts modifications notScalable modification predWeightTable weightList weight decRefPicMarking quantiser filter numberIf signedIf flagIf given operationsIf operations nothing seq shaped test when times until flag u ue se fixedAt suffixAt codeAt ueAt seOf bitsOf bytesBits digits numberOf pictureFor sequenceIdFor sequenceFor contextFor sequenceFits pictureFits sequencePut picturePut sequenceIn pictureIn sequenceEntry pictureEntry sequenceOf pictureOf sequenceMarks sequenceWords pictureMarks pictureWords sampleTable toOperations pad typeOf forbiddenZeroBitOf nalRefIdc nalUnitType headerFrom headerOf kindOf typed begun inBody sliceBits unitRead lenOf unitAt firstFrom nextUnit no-unit walked
 marked-hold = (refl, (refl, (refl, (refl, (refl, (refl, (refl, (refl, (refl, (refl, (refl, (refl, (refl, tt)))))))))))))
