@@ -1,0 +1,5 @@
+pub mod Passed
+pub mod Answers
+pub mod Room
+pub mod Units
+pub mod RoundTrip
