@@ -1,3 +1,5 @@
+pub mod Fields
+pub mod Stages
 pub mod Passed
 pub mod Answers
 pub mod Room

@@ -2,7 +2,6 @@
 use Prim.Native.Nat.{ℕ}
 use mathlib.Core.Path.{_≡_, refl, ap}
 use mathlib.Core.Bool.{Bool, true, false}
-
 use lib.Dec.{T, leb}
 use lib.IntN.{ℤ, pos}
 use Rattle.bits.specs.Refusals.{pick}

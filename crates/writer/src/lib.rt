@@ -1,4 +1,10 @@
-// Writing a slice header: its bits, for the record, the table and what is told of the unit; equal to the description that reading has.
+// The header written: its parts in order into a buffer, by the same formats that read it.
 pub mod given; // the extension given, and what it and the first byte say of the unit
-pub(crate) mod sets; // the sets that the record's picture set id names
+mod sets; // the sets that the record's picture set id names
+mod marks; // every single field, as it is, tested, or there only under a condition
+mod frame; // colour_plane_id to idr_pic_id
+mod order; // pic_order_cnt_lsb to redundant_pic_cnt
+mod counts; // direct_spatial_mv_pred_flag to num_ref_idx_l1_active_minus1
+mod quantiser; // cabac_init_idc to slice_qs_delta
+mod filter; // disable_deblocking_filter_idc to slice_group_change_cycle
 pub mod write; // the header written into a lent buffer

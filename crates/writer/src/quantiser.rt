@@ -1,0 +1,56 @@
+// cabac_init_idc to slice_qs_delta.
+use crate::marks::put_flag_if;
+use crate::marks::put_number_if;
+use crate::marks::put_qp;
+use crate::marks::put_qs_if;
+use bits::put::Wrote;
+use bits::read::Cursor;
+use codes::conditions::I;
+use codes::conditions::SI;
+use codes::conditions::SP;
+use codes::conditions::both;
+use codes::conditions::either;
+use codes::conditions::is_type;
+use syntax::context::Context;
+use syntax::record::Quantiser;
+ghost use mathlib.Core.Bool.{not, _&&_};
+ghost use mathlib.Core.Path.{_≡_};
+ghost use Rattle.fmt.specs.Put.{Put};
+ghost use Rattle.syntax.specs.Context.{isI, isSI};
+ghost use Rattle.syntax.specs.SliceHeader.{quantiser};
+
+// Whether cabac_init_idc is there.
+fn has_cabac(x: Context, slice_type: u32) -> bool
+    ensures { λ r. ⌜ r ≡ x .picture .«entropy_coding_mode_flag» && (not (isI «slice_type») && not (isSI «slice_type»)) ⌝ }
+{
+    both(
+        x.picture.entropy_coding_mode_flag,
+        both(!is_type(slice_type, I), !is_type(slice_type, SI)),
+    )
+}
+
+pub(crate) fn put_quantiser(
+    d: &mut [u8],
+    c: Cursor,
+    x: Context,
+    slice_type: u32,
+    q: Quantiser,
+) -> Wrote
+    ensures { λ r. ⌜ Put (quantiser x «slice_type») q (now (d .entry)) (c .at) (now (d .exit)) r ⌝ }
+{
+    let a1 = put_number_if(d, c, has_cabac(x, slice_type), q.cabac_init_idc);
+    let Wrote::At(c1) = a1 else {
+        return a1;
+    };
+    let a2 = put_qp(d, c1, q.slice_qp_delta, x);
+    let Wrote::At(c2) = a2 else {
+        return a2;
+    };
+    let sp = is_type(slice_type, SP);
+    let a3 = put_flag_if(d, c2, sp, q.sp_for_switch_flag);
+    let Wrote::At(c3) = a3 else {
+        return a3;
+    };
+    let switching = either(sp, is_type(slice_type, SI));
+    put_qs_if(d, c3, switching, q.slice_qs_delta, x)
+}
