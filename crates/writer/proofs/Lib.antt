@@ -3,5 +3,7 @@ pub mod Stages
 pub mod Passed
 pub mod Answers
 pub mod Room
+pub mod Copies
+pub mod Known
 pub mod Units
 pub mod RoundTrip

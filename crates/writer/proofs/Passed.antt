@@ -38,11 +38,11 @@ module _ (t : Table) (id : ℕ) where
   with-sequence p (FoundSequence.There s) l k g i = record { picture = p; sequence = s; are = rw (T-true (leb id 255) l, k, g) }
   with-sequence p FoundSequence.Absent l k g i = absurd i
 
-  picture-is : {p : Picture} → pictureAt t id ≡ FoundPicture.There p → pictureFor t id ≡ p
+  pub picture-is : {p : Picture} → pictureAt t id ≡ FoundPicture.There p → pictureFor t id ≡ p
   unfolding pictureFor
   picture-is k = rw k
 
-  sequence-id : {p : Picture} → pictureAt t id ≡ FoundPicture.There p → sequenceIdFor t id ≡ p .«seq_parameter_set_id»
+  pub sequence-id : {p : Picture} → pictureAt t id ≡ FoundPicture.There p → sequenceIdFor t id ≡ p .«seq_parameter_set_id»
   unfolding sequenceIdFor
   sequence-id k = ap (λ (x : Picture). x .«seq_parameter_set_id») (picture-is k)
 

@@ -5,6 +5,10 @@ mod marks; // every single field, as it is, tested, or there only under a condit
 mod frame; // colour_plane_id to idr_pic_id
 mod order; // pic_order_cnt_lsb to redundant_pic_cnt
 mod counts; // direct_spatial_mv_pred_flag to num_ref_idx_l1_active_minus1
+mod modification; // ref_pic_list_modification( )
+mod weight_table; // pred_weight_table( )
+mod marking; // dec_ref_pic_marking( )
 mod quantiser; // cabac_init_idc to slice_qs_delta
 mod filter; // disable_deblocking_filter_idc to slice_group_change_cycle
+mod whole; // all parts in order
 pub mod write; // the header written into a lent buffer
