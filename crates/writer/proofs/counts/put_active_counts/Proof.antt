@@ -23,7 +23,7 @@ same-length c = c .before .before .before .before .put-flag-if .kept .0
 
 returns : tie.Need-returns
 unfolding activeCounts activeMinus1
-returns c = shaped-put _ _ _ _ _ (refl) (seq-out _ _ _ _ (c .enum-told .given .1) (rw (c .before .before .before .before .before .before .is-type .ensures) at (c .before .before .before .before .put-flag-if .ensures)))
+returns c = shaped-put _ _ _ _ _ refl (seq-out _ _ _ _ (c .enum-told .given .1) (rw (c .before .before .before .before .before .before .is-type .ensures) at (c .before .before .before .before .put-flag-if .ensures)))
 
 has-l0-requires : tie.Need-has-l0-requires
 has-l0-requires c κs = search needs
@@ -42,7 +42,7 @@ same-length-2 c = c .before .before .before .before .put-flag-if2 .kept .0 ∙ c
 
 returns-2 : tie.Need-returns-2
 unfolding activeCounts activeMinus1
-returns-2 c = shaped-put _ _ _ _ _ (refl) (seq-on _ _ _ _ (c .before .before .before .before .before .before .before .before .before .a1 .given .1) (rw (c .before .before .before .before .before .before .before .before .before .before .before .before .before .before .before .is-type .ensures) at (c .before .before .before .before .before .before .before .before .before .before .before .before .before .put-flag-if .ensures)) (seq-out _ _ _ _ (c .enum-told2 .given .1) (rw (c .before .before .before .before .before .has-l0 .ensures) at (c .before .before .before .before .put-flag-if2 .ensures))))
+returns-2 c = shaped-put _ _ _ _ _ refl (seq-on _ _ _ _ (c .before .before .before .before .before .before .before .before .before .a1 .given .1) (rw (c .before .before .before .before .before .before .before .before .before .before .before .before .before .before .before .is-type .ensures) at (c .before .before .before .before .before .before .before .before .before .before .before .before .before .put-flag-if .ensures)) (seq-out _ _ _ _ (c .enum-told2 .given .1) (rw (c .before .before .before .before .before .has-l0 .ensures) at (c .before .before .before .before .put-flag-if2 .ensures))))
 
 put-tested-if-requires : tie.Need-put-tested-if-requires
 put-tested-if-requires c κs = search needs
@@ -58,7 +58,7 @@ same-length-3 c = c .before .before .before .before .put-tested-if .kept .0 ∙ 
 
 returns-3 : tie.Need-returns-3
 unfolding activeCounts activeMinus1
-returns-3 c = shaped-put _ _ _ _ _ (refl) (seq-on _ _ _ _ (c .before .before .before .before .before .before .before .before .before .before .before .before .before .before .before .before .before .a1 .given .1) (rw (c .before .before .before .before .before .before .before .before .before .before .before .before .before .before .before .before .before .before .before .before .before .before .before .is-type .ensures) at (c .before .before .before .before .before .before .before .before .before .before .before .before .before .before .before .before .before .before .before .before .before .put-flag-if .ensures)) (seq-on _ _ _ _ (c .before .before .before .before .before .before .before .before .a2 .given .1) (rw (c .before .before .before .before .before .before .before .before .before .before .before .before .before .has-l0 .ensures) at (c .before .before .before .before .before .before .before .before .before .before .before .before .put-flag-if2 .ensures)) (seq-out _ _ _ _ (c .enum-told3 .given .1) (c .before .before .before .before .put-tested-if .ensures))))
+returns-3 c = shaped-put _ _ _ _ _ refl (seq-on _ _ _ _ (c .before .before .before .before .before .before .before .before .before .before .before .before .before .before .before .before .before .a1 .given .1) (rw (c .before .before .before .before .before .before .before .before .before .before .before .before .before .before .before .before .before .before .before .before .before .before .before .is-type .ensures) at (c .before .before .before .before .before .before .before .before .before .before .before .before .before .before .before .before .before .before .before .before .before .put-flag-if .ensures)) (seq-on _ _ _ _ (c .before .before .before .before .before .before .before .before .a2 .given .1) (rw (c .before .before .before .before .before .before .before .before .before .before .before .before .before .has-l0 .ensures) at (c .before .before .before .before .before .before .before .before .before .before .before .before .put-flag-if2 .ensures)) (seq-out _ _ _ _ (c .enum-told3 .given .1) (c .before .before .before .before .put-tested-if .ensures))))
 
 both-requires : tie.Need-both-requires
 both-requires c κs = search needs
@@ -71,7 +71,7 @@ same-length-4 c = c .before .before .put-tested-if2 .kept .0 ∙ c .before .befo
 
 returns-4 : tie.Need-returns-4
 unfolding activeCounts activeMinus1
-returns-4 c = shaped-put _ _ _ _ _ (refl) (seq-on _ _ _ _ (c .before .before .before .before .before .before .before .before .before .before .before .before .before .before .before .before .before .before .before .before .before .before .before .before .a1 .given .1) (rw (c .before .before .before .before .before .before .before .before .before .before .before .before .before .before .before .before .before .before .before .before .before .before .before .before .before .before .before .before .before .before .is-type .ensures) at (c .before .before .before .before .before .before .before .before .before .before .before .before .before .before .before .before .before .before .before .before .before .before .before .before .before .before .before .before .put-flag-if .ensures)) (seq-on _ _ _ _ (c .before .before .before .before .before .before .before .before .before .before .before .before .before .before .before .a2 .given .1) (rw (c .before .before .before .before .before .before .before .before .before .before .before .before .before .before .before .before .before .before .before .before .has-l0 .ensures) at (c .before .before .before .before .before .before .before .before .before .before .before .before .before .before .before .before .before .before .before .put-flag-if2 .ensures)) (seq-on _ _ _ _ (c .before .before .before .before .before .before .before .a3 .given .1) (c .before .before .before .before .before .before .before .before .before .before .before .put-tested-if .ensures) (rw (c .before .before .before .both .ensures, c .before .before .before .before .before .before .before .before .before .before .before .before .before .before .before .before .before .before .before .before .before .before .before .before .before .before .before .before .before .before .is-type .ensures) at (c .before .before .put-tested-if2 .ensures)))))
+returns-4 c = shaped-put _ _ _ _ _ refl (seq-on _ _ _ _ (c .before .before .before .before .before .before .before .before .before .before .before .before .before .before .before .before .before .before .before .before .before .before .before .before .a1 .given .1) (rw (c .before .before .before .before .before .before .before .before .before .before .before .before .before .before .before .before .before .before .before .before .before .before .before .before .before .before .before .before .before .before .is-type .ensures) at (c .before .before .before .before .before .before .before .before .before .before .before .before .before .before .before .before .before .before .before .before .before .before .before .before .before .before .before .before .put-flag-if .ensures)) (seq-on _ _ _ _ (c .before .before .before .before .before .before .before .before .before .before .before .before .before .before .before .a2 .given .1) (rw (c .before .before .before .before .before .before .before .before .before .before .before .before .before .before .before .before .before .before .before .before .has-l0 .ensures) at (c .before .before .before .before .before .before .before .before .before .before .before .before .before .before .before .before .before .before .before .put-flag-if2 .ensures)) (seq-on _ _ _ _ (c .before .before .before .before .before .before .before .a3 .given .1) (c .before .before .before .before .before .before .before .before .before .before .before .put-tested-if .ensures) (rw (c .before .before .before .both .ensures, c .before .before .before .before .before .before .before .before .before .before .before .before .before .before .before .before .before .before .before .before .before .before .before .before .before .before .before .before .before .before .is-type .ensures) at (c .before .before .put-tested-if2 .ensures)))))
 
 pub put-active-counts-spec : {M : Type 1} → statement M
 put-active-counts-spec =

@@ -20,7 +20,7 @@ same-length c = c .before .before .before .before .put-tested-if .kept .0
 
 returns : tie.Need-returns
 unfolding filter
-returns c = shaped-put _ _ _ _ _ (refl) (seq-out _ _ _ _ (c .enum-told .given .1) (c .before .before .before .before .put-tested-if .ensures))
+returns c = shaped-put _ _ _ _ _ refl (seq-out _ _ _ _ (c .enum-told .given .1) (c .before .before .before .before .put-tested-if .ensures))
 
 both-requires : tie.Need-both-requires
 both-requires c κs = search needs
@@ -39,7 +39,7 @@ same-length-2 c = c .before .before .before .before .put-offset-if .kept .0 ∙ 
 
 returns-2 : tie.Need-returns-2
 unfolding filter
-returns-2 c = shaped-put _ _ _ _ _ (refl) (seq-on _ _ _ _ (c .before .before .before .before .before .before .before .before .before .a1 .given .1) (c .before .before .before .before .before .before .before .before .before .before .before .before .before .put-tested-if .ensures) (seq-out _ _ _ _ (c .enum-told2 .given .1) (rw (c .before .before .before .before .before .before .both .ensures) at (c .before .before .before .before .put-offset-if .ensures))))
+returns-2 c = shaped-put _ _ _ _ _ refl (seq-on _ _ _ _ (c .before .before .before .before .before .before .before .before .before .a1 .given .1) (c .before .before .before .before .before .before .before .before .before .before .before .before .before .put-tested-if .ensures) (seq-out _ _ _ _ (c .enum-told2 .given .1) (rw (c .before .before .before .before .before .before .both .ensures) at (c .before .before .before .before .put-offset-if .ensures))))
 
 put-offset-if-requires-2 : tie.Need-put-offset-if-requires-2
 put-offset-if-requires-2 c κs = search needs
@@ -55,7 +55,7 @@ same-length-3 c = c .before .before .before .before .put-offset-if2 .kept .0 ∙
 
 returns-3 : tie.Need-returns-3
 unfolding filter
-returns-3 c = shaped-put _ _ _ _ _ (refl) (seq-on _ _ _ _ (c .before .before .before .before .before .before .before .before .before .before .before .before .before .before .before .before .a1 .given .1) (c .before .before .before .before .before .before .before .before .before .before .before .before .before .before .before .before .before .before .before .before .put-tested-if .ensures) (seq-on _ _ _ _ (c .before .before .before .before .before .before .before .a2 .given .1) (rw (c .before .before .before .before .before .before .before .before .before .before .before .before .before .both .ensures) at (c .before .before .before .before .before .before .before .before .before .before .before .put-offset-if .ensures)) (seq-out _ _ _ _ (c .enum-told3 .given .1) (rw (c .before .before .before .before .before .before .before .before .before .before .before .before .before .both .ensures) at (c .before .before .before .before .put-offset-if2 .ensures)))))
+returns-3 c = shaped-put _ _ _ _ _ refl (seq-on _ _ _ _ (c .before .before .before .before .before .before .before .before .before .before .before .before .before .before .before .before .a1 .given .1) (c .before .before .before .before .before .before .before .before .before .before .before .before .before .before .before .before .before .before .before .before .put-tested-if .ensures) (seq-on _ _ _ _ (c .before .before .before .before .before .before .before .a2 .given .1) (rw (c .before .before .before .before .before .before .before .before .before .before .before .before .before .both .ensures) at (c .before .before .before .before .before .before .before .before .before .before .before .put-offset-if .ensures)) (seq-out _ _ _ _ (c .enum-told3 .given .1) (rw (c .before .before .before .before .before .before .before .before .before .before .before .before .before .both .ensures) at (c .before .before .before .before .put-offset-if2 .ensures)))))
 
 change-cycle-width-requires : tie.Need-change-cycle-width-requires
 change-cycle-width-requires c κs = search needs
@@ -68,7 +68,7 @@ same-length-4 c = c .before .before .put-bits-if .kept .0 ∙ c .before .before 
 
 returns-4 : tie.Need-returns-4
 unfolding filter
-returns-4 c = shaped-put _ _ _ _ _ (refl) (seq-on _ _ _ _ (c .before .before .before .before .before .before .before .before .before .before .before .before .before .before .before .before .before .before .before .before .before .before .a1 .given .1) (c .before .before .before .before .before .before .before .before .before .before .before .before .before .before .before .before .before .before .before .before .before .before .before .before .before .before .put-tested-if .ensures) (seq-on _ _ _ _ (c .before .before .before .before .before .before .before .before .before .before .before .before .before .a2 .given .1) (rw (c .before .before .before .before .before .before .before .before .before .before .before .before .before .before .before .before .before .before .before .both .ensures) at (c .before .before .before .before .before .before .before .before .before .before .before .before .before .before .before .before .before .put-offset-if .ensures)) (seq-on _ _ _ _ (c .before .before .before .before .before .before .a3 .given .1) (rw (c .before .before .before .before .before .before .before .before .before .before .before .before .before .before .before .before .before .before .before .both .ensures) at (c .before .before .before .before .before .before .before .before .before .before .put-offset-if2 .ensures)) (rw (c .before .before .before .before .change-cycle-width .ensures) at (c .before .before .put-bits-if .ensures)))))
+returns-4 c = shaped-put _ _ _ _ _ refl (seq-on _ _ _ _ (c .before .before .before .before .before .before .before .before .before .before .before .before .before .before .before .before .before .before .before .before .before .before .a1 .given .1) (c .before .before .before .before .before .before .before .before .before .before .before .before .before .before .before .before .before .before .before .before .before .before .before .before .before .before .put-tested-if .ensures) (seq-on _ _ _ _ (c .before .before .before .before .before .before .before .before .before .before .before .before .before .a2 .given .1) (rw (c .before .before .before .before .before .before .before .before .before .before .before .before .before .before .before .before .before .before .before .both .ensures) at (c .before .before .before .before .before .before .before .before .before .before .before .before .before .before .before .before .before .put-offset-if .ensures)) (seq-on _ _ _ _ (c .before .before .before .before .before .before .a3 .given .1) (rw (c .before .before .before .before .before .before .before .before .before .before .before .before .before .before .before .before .before .before .before .both .ensures) at (c .before .before .before .before .before .before .before .before .before .before .put-offset-if2 .ensures)) (rw (c .before .before .before .before .change-cycle-width .ensures) at (c .before .before .put-bits-if .ensures)))))
 
 pub put-filter-spec : {M : Type 1} → statement M
 put-filter-spec =

@@ -20,7 +20,7 @@ same-length c = c .before .before .before .before .put-colour-plane-if .kept .0
 
 returns : tie.Need-returns
 unfolding frame
-returns c = shaped-put _ _ _ _ _ (refl) (seq-out _ _ _ _ (c .enum-told .given .1) (c .before .before .before .before .put-colour-plane-if .ensures))
+returns c = shaped-put _ _ _ _ _ refl (seq-out _ _ _ _ (c .enum-told .given .1) (c .before .before .before .before .put-colour-plane-if .ensures))
 
 put-bits-requires : tie.Need-put-bits-requires
 put-bits-requires c κs = search needs
@@ -36,7 +36,7 @@ same-length-2 c = c .before .before .before .before .put-bits .kept .0 ∙ c .be
 
 returns-2 : tie.Need-returns-2
 unfolding frame
-returns-2 c = shaped-put _ _ _ _ _ (refl) (seq-on _ _ _ _ (c .before .before .before .before .before .before .before .a1 .given .1) (c .before .before .before .before .before .before .before .before .before .before .before .put-colour-plane-if .ensures) (seq-out _ _ _ _ (c .enum-told2 .given .1) (c .before .before .before .before .put-bits .ensures)))
+returns-2 c = shaped-put _ _ _ _ _ refl (seq-on _ _ _ _ (c .before .before .before .before .before .before .before .a1 .given .1) (c .before .before .before .before .before .before .before .before .before .before .before .put-colour-plane-if .ensures) (seq-out _ _ _ _ (c .enum-told2 .given .1) (c .before .before .before .before .put-bits .ensures)))
 
 put-flag-if-requires : tie.Need-put-flag-if-requires
 put-flag-if-requires c κs = search needs
@@ -52,7 +52,7 @@ same-length-3 c = c .before .before .before .before .put-flag-if .kept .0 ∙ c 
 
 returns-3 : tie.Need-returns-3
 unfolding frame
-returns-3 c = shaped-put _ _ _ _ _ (refl) (seq-on _ _ _ _ (c .before .before .before .before .before .before .before .before .before .before .before .before .before .before .before .before .a1 .given .1) (c .before .before .before .before .before .before .before .before .before .before .before .before .before .before .before .before .before .before .before .before .put-colour-plane-if .ensures) (seq-on _ _ _ _ (c .before .before .before .before .before .before .before .before .before .a2 .given .1) (c .before .before .before .before .before .before .before .before .before .before .before .before .before .put-bits .ensures) (seq-out _ _ _ _ (c .enum-told3 .given .1) (c .before .before .before .before .put-flag-if .ensures))))
+returns-3 c = shaped-put _ _ _ _ _ refl (seq-on _ _ _ _ (c .before .before .before .before .before .before .before .before .before .before .before .before .before .before .before .before .a1 .given .1) (c .before .before .before .before .before .before .before .before .before .before .before .before .before .before .before .before .before .before .before .before .put-colour-plane-if .ensures) (seq-on _ _ _ _ (c .before .before .before .before .before .before .before .before .before .a2 .given .1) (c .before .before .before .before .before .before .before .before .before .before .before .before .before .put-bits .ensures) (seq-out _ _ _ _ (c .enum-told3 .given .1) (c .before .before .before .before .put-flag-if .ensures))))
 
 put-flag-if-requires-2 : tie.Need-put-flag-if-requires-2
 put-flag-if-requires-2 c κs = search needs
@@ -68,7 +68,7 @@ same-length-4 c = c .before .before .before .before .put-flag-if2 .kept .0 ∙ c
 
 returns-4 : tie.Need-returns-4
 unfolding frame
-returns-4 c = shaped-put _ _ _ _ _ (refl) (seq-on _ _ _ _ (c .before .before .before .before .before .before .before .before .before .before .before .before .before .before .before .before .before .before .before .before .before .before .before .a1 .given .1) (c .before .before .before .before .before .before .before .before .before .before .before .before .before .before .before .before .before .before .before .before .before .before .before .before .before .before .before .put-colour-plane-if .ensures) (seq-on _ _ _ _ (c .before .before .before .before .before .before .before .before .before .before .before .before .before .before .before .before .a2 .given .1) (c .before .before .before .before .before .before .before .before .before .before .before .before .before .before .before .before .before .before .before .before .put-bits .ensures) (seq-on _ _ _ _ (c .before .before .before .before .before .before .before .a3 .given .1) (c .before .before .before .before .before .before .before .before .before .before .before .put-flag-if .ensures) (seq-out _ _ _ _ (c .enum-told4 .given .1) (c .before .before .before .before .put-flag-if2 .ensures)))))
+returns-4 c = shaped-put _ _ _ _ _ refl (seq-on _ _ _ _ (c .before .before .before .before .before .before .before .before .before .before .before .before .before .before .before .before .before .before .before .before .before .before .before .a1 .given .1) (c .before .before .before .before .before .before .before .before .before .before .before .before .before .before .before .before .before .before .before .before .before .before .before .before .before .before .before .put-colour-plane-if .ensures) (seq-on _ _ _ _ (c .before .before .before .before .before .before .before .before .before .before .before .before .before .before .before .before .a2 .given .1) (c .before .before .before .before .before .before .before .before .before .before .before .before .before .before .before .before .before .before .before .before .put-bits .ensures) (seq-on _ _ _ _ (c .before .before .before .before .before .before .before .a3 .given .1) (c .before .before .before .before .before .before .before .before .before .before .before .put-flag-if .ensures) (seq-out _ _ _ _ (c .enum-told4 .given .1) (c .before .before .before .before .put-flag-if2 .ensures)))))
 
 put-number-if-requires : tie.Need-put-number-if-requires
 put-number-if-requires c κs = search needs
@@ -78,7 +78,7 @@ same-length-5 c = c .before .before .put-number-if .kept .0 ∙ c .before .befor
 
 returns-5 : tie.Need-returns-5
 unfolding frame
-returns-5 c = shaped-put _ _ _ _ _ (refl) (seq-on _ _ _ _ (c .before .before .before .before .before .before .before .before .before .before .before .before .before .before .before .before .before .before .before .before .before .before .before .before .before .before .before .before .a1 .given .1) (c .before .before .before .before .before .before .before .before .before .before .before .before .before .before .before .before .before .before .before .before .before .before .before .before .before .before .before .before .before .before .before .before .put-colour-plane-if .ensures) (seq-on _ _ _ _ (c .before .before .before .before .before .before .before .before .before .before .before .before .before .before .before .before .before .before .before .before .before .a2 .given .1) (c .before .before .before .before .before .before .before .before .before .before .before .before .before .before .before .before .before .before .before .before .before .before .before .before .before .put-bits .ensures) (seq-on _ _ _ _ (c .before .before .before .before .before .before .before .before .before .before .before .before .a3 .given .1) (c .before .before .before .before .before .before .before .before .before .before .before .before .before .before .before .before .put-flag-if .ensures) (seq-on _ _ _ _ (c .before .before .before .before .before .a4 .given .1) (c .before .before .before .before .before .before .before .before .before .put-flag-if2 .ensures) (c .before .before .put-number-if .ensures)))))
+returns-5 c = shaped-put _ _ _ _ _ refl (seq-on _ _ _ _ (c .before .before .before .before .before .before .before .before .before .before .before .before .before .before .before .before .before .before .before .before .before .before .before .before .before .before .before .before .a1 .given .1) (c .before .before .before .before .before .before .before .before .before .before .before .before .before .before .before .before .before .before .before .before .before .before .before .before .before .before .before .before .before .before .before .before .put-colour-plane-if .ensures) (seq-on _ _ _ _ (c .before .before .before .before .before .before .before .before .before .before .before .before .before .before .before .before .before .before .before .before .before .a2 .given .1) (c .before .before .before .before .before .before .before .before .before .before .before .before .before .before .before .before .before .before .before .before .before .before .before .before .before .put-bits .ensures) (seq-on _ _ _ _ (c .before .before .before .before .before .before .before .before .before .before .before .before .a3 .given .1) (c .before .before .before .before .before .before .before .before .before .before .before .before .before .before .before .before .put-flag-if .ensures) (seq-on _ _ _ _ (c .before .before .before .before .before .a4 .given .1) (c .before .before .before .before .before .before .before .before .before .put-flag-if2 .ensures) (c .before .before .put-number-if .ensures)))))
 
 pub put-frame-spec : {M : Type 1} → statement M
 put-frame-spec =

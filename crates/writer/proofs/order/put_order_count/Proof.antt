@@ -23,7 +23,7 @@ same-length c = c .before .before .before .before .put-lsb-if .kept .0
 
 returns : tie.Need-returns
 unfolding orderCount
-returns c = shaped-put _ _ _ _ _ (refl) (seq-out _ _ _ _ (c .enum-told .given .1) (c .before .before .before .before .put-lsb-if .ensures))
+returns c = shaped-put _ _ _ _ _ refl (seq-out _ _ _ _ (c .enum-told .given .1) (c .before .before .before .before .put-lsb-if .ensures))
 
 both-requires-2 : tie.Need-both-requires-2
 both-requires-2 c κs = search needs
@@ -42,7 +42,7 @@ same-length-2 c = c .before .before .before .before .put-signed-if .kept .0 ∙ 
 
 returns-2 : tie.Need-returns-2
 unfolding orderCount
-returns-2 c = shaped-put _ _ _ _ _ (refl) (seq-on _ _ _ _ (c .before .before .before .before .before .before .before .before .a1 .given .1) (c .before .before .before .before .before .before .before .before .before .before .before .before .put-lsb-if .ensures) (seq-out _ _ _ _ (c .enum-told2 .given .1) (rw (c .before .before .before .before .before .both2 .ensures, c .before .before .before .before .before .before .before .before .before .before .before .before .before .before .both .ensures) at (c .before .before .before .before .put-signed-if .ensures))))
+returns-2 c = shaped-put _ _ _ _ _ refl (seq-on _ _ _ _ (c .before .before .before .before .before .before .before .before .a1 .given .1) (c .before .before .before .before .before .before .before .before .before .before .before .before .put-lsb-if .ensures) (seq-out _ _ _ _ (c .enum-told2 .given .1) (rw (c .before .before .before .before .before .both2 .ensures, c .before .before .before .before .before .before .before .before .before .before .before .before .before .before .both .ensures) at (c .before .before .before .before .put-signed-if .ensures))))
 
 put-deltas-requires : tie.Need-put-deltas-requires
 put-deltas-requires c κs = search needs
@@ -58,7 +58,7 @@ same-length-3 c = c .before .before .before .before .put-deltas .kept .0 ∙ c .
 
 returns-3 : tie.Need-returns-3
 unfolding orderCount
-returns-3 c = shaped-put _ _ _ _ _ (refl) (seq-on _ _ _ _ (c .before .before .before .before .before .before .before .before .before .before .before .before .before .before .before .a1 .given .1) (c .before .before .before .before .before .before .before .before .before .before .before .before .before .before .before .before .before .before .before .put-lsb-if .ensures) (seq-on _ _ _ _ (c .before .before .before .before .before .before .before .a2 .given .1) (rw (c .before .before .before .before .before .before .before .before .before .before .before .before .both2 .ensures, c .before .before .before .before .before .before .before .before .before .before .before .before .before .before .before .before .before .before .before .before .before .both .ensures) at (c .before .before .before .before .before .before .before .before .before .before .before .put-signed-if .ensures)) (seq-out _ _ _ _ (c .enum-told3 .given .1) (c .before .before .before .before .put-deltas .ensures))))
+returns-3 c = shaped-put _ _ _ _ _ refl (seq-on _ _ _ _ (c .before .before .before .before .before .before .before .before .before .before .before .before .before .before .before .a1 .given .1) (c .before .before .before .before .before .before .before .before .before .before .before .before .before .before .before .before .before .before .before .put-lsb-if .ensures) (seq-on _ _ _ _ (c .before .before .before .before .before .before .before .a2 .given .1) (rw (c .before .before .before .before .before .before .before .before .before .before .before .before .both2 .ensures, c .before .before .before .before .before .before .before .before .before .before .before .before .before .before .before .before .before .before .before .before .before .both .ensures) at (c .before .before .before .before .before .before .before .before .before .before .before .put-signed-if .ensures)) (seq-out _ _ _ _ (c .enum-told3 .given .1) (c .before .before .before .before .put-deltas .ensures))))
 
 put-number-if-requires : tie.Need-put-number-if-requires
 put-number-if-requires c κs = search needs
@@ -68,7 +68,7 @@ same-length-4 c = c .before .before .put-number-if .kept .0 ∙ c .before .befor
 
 returns-4 : tie.Need-returns-4
 unfolding orderCount
-returns-4 c = shaped-put _ _ _ _ _ (refl) (seq-on _ _ _ _ (c .before .before .before .before .before .before .before .before .before .before .before .before .before .before .before .before .before .before .before .before .a1 .given .1) (c .before .before .before .before .before .before .before .before .before .before .before .before .before .before .before .before .before .before .before .before .before .before .before .before .put-lsb-if .ensures) (seq-on _ _ _ _ (c .before .before .before .before .before .before .before .before .before .before .before .before .a2 .given .1) (rw (c .before .before .before .before .before .before .before .before .before .before .before .before .before .before .before .before .before .both2 .ensures, c .before .before .before .before .before .before .before .before .before .before .before .before .before .before .before .before .before .before .before .before .before .before .before .before .before .before .both .ensures) at (c .before .before .before .before .before .before .before .before .before .before .before .before .before .before .before .before .put-signed-if .ensures)) (seq-on _ _ _ _ (c .before .before .before .before .before .a3 .given .1) (c .before .before .before .before .before .before .before .before .before .put-deltas .ensures) (c .before .before .put-number-if .ensures))))
+returns-4 c = shaped-put _ _ _ _ _ refl (seq-on _ _ _ _ (c .before .before .before .before .before .before .before .before .before .before .before .before .before .before .before .before .before .before .before .before .a1 .given .1) (c .before .before .before .before .before .before .before .before .before .before .before .before .before .before .before .before .before .before .before .before .before .before .before .before .put-lsb-if .ensures) (seq-on _ _ _ _ (c .before .before .before .before .before .before .before .before .before .before .before .before .a2 .given .1) (rw (c .before .before .before .before .before .before .before .before .before .before .before .before .before .before .before .before .before .both2 .ensures, c .before .before .before .before .before .before .before .before .before .before .before .before .before .before .before .before .before .before .before .before .before .before .before .before .before .before .both .ensures) at (c .before .before .before .before .before .before .before .before .before .before .before .before .before .before .before .before .put-signed-if .ensures)) (seq-on _ _ _ _ (c .before .before .before .before .before .a3 .given .1) (c .before .before .before .before .before .before .before .before .before .put-deltas .ensures) (c .before .before .put-number-if .ensures))))
 
 pub put-order-count-spec : {M : Type 1} → statement M
 put-order-count-spec =

@@ -26,7 +26,7 @@ same-length c = c .before .before .before .before .put-number-if .kept .0
 
 returns : tie.Need-returns
 unfolding quantiser
-returns c = shaped-put _ _ _ _ _ (refl) (seq-out _ _ _ _ (c .enum-told .given .1) (rw (c .before .before .before .before .before .has-cabac .ensures) at (c .before .before .before .before .put-number-if .ensures)))
+returns c = shaped-put _ _ _ _ _ refl (seq-out _ _ _ _ (c .enum-told .given .1) (rw (c .before .before .before .before .before .has-cabac .ensures) at (c .before .before .before .before .put-number-if .ensures)))
 
 put-qp-requires : tie.Need-put-qp-requires
 put-qp-requires c κs = search needs
@@ -44,7 +44,7 @@ returns-2 : tie.Need-returns-2
 unfolding quantiser
 returns-2 c =
     let f : SFits w32 (c .before .before .before .before .before .before .before .before .before .before .before .before .before .before .before .before .args .q .«slice_qp_delta») = search needs in
-    shaped-put _ _ _ _ _ (refl) (seq-on _ _ _ _ (c .before .before .before .before .before .before .before .before .a1 .given .1) (rw (c .before .before .before .before .before .before .before .before .before .before .before .before .before .has-cabac .ensures) at (c .before .before .before .before .before .before .before .before .before .before .before .before .put-number-if .ensures)) (seq-out _ _ _ _ (c .enum-told2 .given .1) (rw (toZ-ofZ f) at (c .before .before .before .before .put-qp .ensures))))
+    shaped-put _ _ _ _ _ refl (seq-on _ _ _ _ (c .before .before .before .before .before .before .before .before .a1 .given .1) (rw (c .before .before .before .before .before .before .before .before .before .before .before .before .before .has-cabac .ensures) at (c .before .before .before .before .before .before .before .before .before .before .before .before .put-number-if .ensures)) (seq-out _ _ _ _ (c .enum-told2 .given .1) (rw (toZ-ofZ f) at (c .before .before .before .before .put-qp .ensures))))
 
 is-type-requires : tie.Need-is-type-requires
 is-type-requires c κs = search needs
@@ -65,7 +65,7 @@ returns-3 : tie.Need-returns-3
 unfolding quantiser
 returns-3 c =
     let f : SFits w32 (c .before .before .before .before .before .before .before .before .before .before .before .before .before .before .before .before .before .before .before .before .before .before .before .before .args .q .«slice_qp_delta») = search needs in
-    shaped-put _ _ _ _ _ (refl) (seq-on _ _ _ _ (c .before .before .before .before .before .before .before .before .before .before .before .before .before .before .before .before .a1 .given .1) (rw (c .before .before .before .before .before .before .before .before .before .before .before .before .before .before .before .before .before .before .before .before .before .has-cabac .ensures) at (c .before .before .before .before .before .before .before .before .before .before .before .before .before .before .before .before .before .before .before .before .put-number-if .ensures)) (seq-on _ _ _ _ (c .before .before .before .before .before .before .before .before .a2 .given .1) (rw (toZ-ofZ f) at (c .before .before .before .before .before .before .before .before .before .before .before .before .put-qp .ensures)) (seq-out _ _ _ _ (c .enum-told3 .given .1) (rw (c .before .before .before .before .before .before .is-type .ensures) at (c .before .before .before .before .put-flag-if .ensures)))))
+    shaped-put _ _ _ _ _ refl (seq-on _ _ _ _ (c .before .before .before .before .before .before .before .before .before .before .before .before .before .before .before .before .a1 .given .1) (rw (c .before .before .before .before .before .before .before .before .before .before .before .before .before .before .before .before .before .before .before .before .before .has-cabac .ensures) at (c .before .before .before .before .before .before .before .before .before .before .before .before .before .before .before .before .before .before .before .before .put-number-if .ensures)) (seq-on _ _ _ _ (c .before .before .before .before .before .before .before .before .a2 .given .1) (rw (toZ-ofZ f) at (c .before .before .before .before .before .before .before .before .before .before .before .before .put-qp .ensures)) (seq-out _ _ _ _ (c .enum-told3 .given .1) (rw (c .before .before .before .before .before .before .is-type .ensures) at (c .before .before .before .before .put-flag-if .ensures)))))
 
 is-type-requires-2 : tie.Need-is-type-requires-2
 is-type-requires-2 c κs = search needs
@@ -83,7 +83,7 @@ returns-4 : tie.Need-returns-4
 unfolding quantiser
 returns-4 c =
     let f : SFits w32 (c .before .before .before .before .before .before .before .before .before .before .before .before .before .before .before .before .before .before .before .before .before .before .before .before .before .before .before .before .before .before .before .args .q .«slice_qp_delta») = search needs in
-    shaped-put _ _ _ _ _ (refl) (seq-on _ _ _ _ (c .before .before .before .before .before .before .before .before .before .before .before .before .before .before .before .before .before .before .before .before .before .before .before .a1 .given .1) (rw (c .before .before .before .before .before .before .before .before .before .before .before .before .before .before .before .before .before .before .before .before .before .before .before .before .before .before .before .before .has-cabac .ensures) at (c .before .before .before .before .before .before .before .before .before .before .before .before .before .before .before .before .before .before .before .before .before .before .before .before .before .before .before .put-number-if .ensures)) (seq-on _ _ _ _ (c .before .before .before .before .before .before .before .before .before .before .before .before .before .before .before .a2 .given .1) (rw (toZ-ofZ f) at (c .before .before .before .before .before .before .before .before .before .before .before .before .before .before .before .before .before .before .before .put-qp .ensures)) (seq-on _ _ _ _ (c .before .before .before .before .before .before .before .a3 .given .1) (rw (c .before .before .before .before .before .before .before .before .before .before .before .before .before .is-type .ensures) at (c .before .before .before .before .before .before .before .before .before .before .before .put-flag-if .ensures)) (rw (c .before .before .before .before .either .ensures, c .before .before .before .before .before .before .before .before .before .before .before .before .before .is-type .ensures, c .before .before .before .before .before .is-type2 .ensures) at (c .before .before .put-qs-if .ensures)))))
+    shaped-put _ _ _ _ _ refl (seq-on _ _ _ _ (c .before .before .before .before .before .before .before .before .before .before .before .before .before .before .before .before .before .before .before .before .before .before .before .a1 .given .1) (rw (c .before .before .before .before .before .before .before .before .before .before .before .before .before .before .before .before .before .before .before .before .before .before .before .before .before .before .before .before .has-cabac .ensures) at (c .before .before .before .before .before .before .before .before .before .before .before .before .before .before .before .before .before .before .before .before .before .before .before .before .before .before .before .put-number-if .ensures)) (seq-on _ _ _ _ (c .before .before .before .before .before .before .before .before .before .before .before .before .before .before .before .a2 .given .1) (rw (toZ-ofZ f) at (c .before .before .before .before .before .before .before .before .before .before .before .before .before .before .before .before .before .before .before .put-qp .ensures)) (seq-on _ _ _ _ (c .before .before .before .before .before .before .before .a3 .given .1) (rw (c .before .before .before .before .before .before .before .before .before .before .before .before .before .is-type .ensures) at (c .before .before .before .before .before .before .before .before .before .before .before .put-flag-if .ensures)) (rw (c .before .before .before .before .either .ensures, c .before .before .before .before .before .before .before .before .before .before .before .before .before .is-type .ensures, c .before .before .before .before .before .is-type2 .ensures) at (c .before .before .put-qs-if .ensures)))))
 
 pub put-quantiser-spec : {M : Type 1} → statement M
 put-quantiser-spec =
