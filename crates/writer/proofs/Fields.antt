@@ -1,0 +1,119 @@
+-- Writing by cases: a field that is there only under a condition, and what its mark must be. Each law takes what the code tested and gives the format's write.
+use Prim.Native.Nat.{ℕ}
+use mathlib.Core.Path.{_≡_, refl, sym, _∙_, subst⁻¹}
+use mathlib.Core.List.{List}
+use mathlib.Core.Bool.{Bool, true, false, not, _&&_}
+use native.Mathlib.Omega.{arith}
+use lib.Dec.{T, eqb}
+use lib.IntN.{ℤ, pos, negsuc}
+use mir.Syntax.{w32}
+use mir.Val.{SFits, ofZ}
+use borrow.Author.Tests.{ne-eqb}
+use Rattle.bits.specs.declared.refusals.Refusal.{Refusal}
+use Rattle.bits.specs.declared.put.Wrote.{Wrote}
+use Rattle.bits.specs.declared.put.Wrote.the-variants.{At, Refused}
+use Rattle.bits.specs.Refusals.{pick}
+use Rattle.fmt.specs.Fmt.{Fmt, shaped, Marked, when}
+use Rattle.fmt.specs.Leaves.{flag}
+use Rattle.fmt.specs.Put.{Put}
+use Rattle.fmt.proofs.Lawful.{both-0, both-1, not-T-false}
+use Rattle.fmt.proofs.Puts.{not-good, shaped-put, when-put, when-absent}
+use Rattle.syntax.specs.Marks.{isZero, isZeroZ, numberIf, signedIf, flagIf, given}
+use Rattle.syntax.specs.declared.marks.MarkedNumber.{MarkedNumber}
+use Rattle.syntax.specs.declared.marks.MarkedSigned.{MarkedSigned}
+use Rattle.syntax.specs.declared.marks.MarkedFlag.{MarkedFlag}
+
+-- the mark is what it should be, and the value zero where the field is absent
+abbrev pub fits : Bool → Bool → Bool → Bool
+fits b mark zero = pick b mark (not mark && zero)
+
+-- a field that does not fit is not good
+fails : (b mark good zero : Bool) → fits b mark zero ≡ false → pick b (mark && good) (not mark && zero) ≡ false
+fails true mark good zero h = rw h
+fails false mark good zero h = h
+
+there-marked : (b mark zero : Bool) → fits b mark zero ≡ true → b ≡ true → mark ≡ true
+there-marked b mark zero h t = rw t at h
+
+absent-fits : (b mark zero : Bool) → fits b mark zero ≡ true → b ≡ false → T (not mark && zero)
+absent-fits b mark zero h t = subst⁻¹ T (rw t at h) tt
+
+-- ---- there only if b, in the record's shape
+
+module _ {A B : Type 0} (to : Marked A → B) (from : B → Marked A) (z : A) (isz : A → Bool) (F : Fmt A) (x : B) (b : Bool) {f : Bool}
+    (e : f ≡ fits b (from x .there) (isz (from x .value))) {d : List ℕ} {at : ℕ} where
+  shaped-there : {d' : List ℕ} {r : Wrote} → f ≡ true → b ≡ true → Put F (from x .value) d at d' r → Put (shaped to from (λ v. true) (when b z isz F)) x d at d' r
+  shaped-there q t p =
+      shaped-put to from (λ v. true) (when b z isz F) x refl
+      (when-put z isz F (from x) b t (there-marked b (from x .there) (isz (from x .value)) (sym e ∙ q) t) p)
+
+  shaped-absent : f ≡ true → b ≡ false → Put (shaped to from (λ v. true) (when b z isz F)) x d at d (At (record { at = at }))
+  shaped-absent q t =
+      let w = absent-fits b (from x .there) (isz (from x .value)) (sym e ∙ q) t in
+      shaped-put to from (λ v. true) (when b z isz F) x refl
+      (when-absent z isz F (from x) d at b t (not-T-false (from x .there) (both-0 (not (from x .there)) (isz (from x .value)) w)) (both-1 (not (from x .there)) (isz (from x .value)) w))
+
+  shaped-unfit : {d' : List ℕ} {r : Refusal} → f ≡ false → Put (shaped to from (λ v. true) (when b z isz F)) x d at d' (Refused r)
+  unfolding shaped when
+  shaped-unfit q =
+      not-good (shaped to from (λ v. true) (when b z isz F)) x
+      (fails b (from x .there) (F .good (from x .value)) (isz (from x .value)) (sym e ∙ q))
+
+module _ (F : Fmt ℕ) (m : MarkedNumber) (b : Bool) {f : Bool} (e : f ≡ fits b (m .there) (isZero (m .value))) {d : List ℕ} {at : ℕ} where
+  pub number-there : {d' : List ℕ} {r : Wrote} → f ≡ true → b ≡ true → Put F (m .value) d at d' r → Put (numberIf b F) m d at d' r
+  unfolding numberIf
+  number-there = shaped-there _ _ 0 isZero F m b e
+
+  pub number-absent : f ≡ true → b ≡ false → Put (numberIf b F) m d at d (At (record { at = at }))
+  unfolding numberIf
+  number-absent = shaped-absent _ _ 0 isZero F m b e
+
+  pub number-unfit : {d' : List ℕ} {r : Refusal} → f ≡ false → Put (numberIf b F) m d at d' (Refused r)
+  unfolding numberIf
+  number-unfit = shaped-unfit _ _ 0 isZero F m b e
+
+module _ (F : Fmt ℤ) (m : MarkedSigned) (b : Bool) {f : Bool} (e : f ≡ fits b (m .there) (isZeroZ (m .value))) {d : List ℕ} {at : ℕ} where
+  pub signed-there : {d' : List ℕ} {r : Wrote} → f ≡ true → b ≡ true → Put F (m .value) d at d' r → Put (signedIf b F) m d at d' r
+  unfolding signedIf
+  signed-there = shaped-there _ _ (pos 0) isZeroZ F m b e
+
+  pub signed-absent : f ≡ true → b ≡ false → Put (signedIf b F) m d at d (At (record { at = at }))
+  unfolding signedIf
+  signed-absent = shaped-absent _ _ (pos 0) isZeroZ F m b e
+
+  pub signed-unfit : {d' : List ℕ} {r : Refusal} → f ≡ false → Put (signedIf b F) m d at d' (Refused r)
+  unfolding signedIf
+  signed-unfit = shaped-unfit _ _ (pos 0) isZeroZ F m b e
+
+module _ (m : MarkedFlag) (b : Bool) {f : Bool} (e : f ≡ fits b (m .there) (not (m .value))) {d : List ℕ} {at : ℕ} where
+  pub flag-there : {d' : List ℕ} {r : Wrote} → f ≡ true → b ≡ true → Put flag (m .value) d at d' r → Put (flagIf b) m d at d' r
+  unfolding flagIf
+  flag-there = shaped-there _ _ false not flag m b e
+
+  pub flag-absent : f ≡ true → b ≡ false → Put (flagIf b) m d at d (At (record { at = at }))
+  unfolding flagIf
+  flag-absent = shaped-absent _ _ false not flag m b e
+
+  pub flag-unfit : {d' : List ℕ} {r : Refusal} → f ≡ false → Put (flagIf b) m d at d' (Refused r)
+  unfolding flagIf
+  flag-unfit = shaped-unfit _ _ false not flag m b e
+
+-- ---- there only if b, which the record tells elsewhere: the mark is b, and fits
+
+module _ {A : Type 0} (z : A) (isz : A → Bool) (F : Fmt A) (v : A) (b : Bool) {d : List ℕ} {at : ℕ} where
+  pub given-there : {d' : List ℕ} {r : Wrote} → b ≡ true → Put F v d at d' r → Put (given b z isz F) v d at d' r
+  unfolding given
+  given-there t p = shaped-there _ (λ v. record { there = b; value = v }) z isz F v b refl (rw t) t p
+
+  pub given-absent : b ≡ false → isz v ≡ true → Put (given b z isz F) v d at d (At (record { at = at }))
+  unfolding given
+  given-absent t q = shaped-absent _ (λ v. record { there = b; value = v }) z isz F v b refl (rw (t, q)) t
+
+  pub given-unfit : {d' : List ℕ} {r : Refusal} → b ≡ false → isz v ≡ false → Put (given b z isz F) v d at d' (Refused r)
+  unfolding given
+  given-unfit t q = shaped-unfit _ (λ v. record { there = b; value = v }) z isz F v b refl (rw (t, q))
+
+-- a signed number is zero where its bits are
+pub zero-bits : (z : ℤ) → SFits w32 z → eqb (ofZ w32 z) 0 ≡ isZeroZ z
+zero-bits (pos n) f = refl
+zero-bits (negsuc n) f = ne-eqb (ofZ w32 (negsuc n)) 0 (λ h. omega (arith, h, f .sfits))

@@ -1,0 +1,18 @@
+use Rattle.fmt.specs.Leaves.{flag}
+use Rattle.fmt.proofs.Puts.{put-of}
+use borrow.Author.Needs.{needs}
+use Rattle.writer.proofs.marks.put_flag.Statement.{statement}
+use Rattle.writer.proofs.marks.put_flag.Tie as tie
+
+put-flag-requires : tie.Need-put-flag-requires
+put-flag-requires c κs = search needs
+
+same-length : tie.Need-same-length
+same-length c = search needs
+
+returns : tie.Need-returns
+unfolding flag
+returns c = put-of flag _ _ _ _ _ (c .before .before .put-flag .ensures .0) (c .before .before .put-flag .ensures .1)
+
+pub put-flag-spec : {M : Type 1} → statement M
+put-flag-spec = tie.close (tie.spec put-flag-requires same-length returns)
