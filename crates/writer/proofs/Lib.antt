@@ -1,3 +1,6 @@
 pub mod Fields
 pub mod Stages
 pub mod Unused
+pub mod OperationLoop
+pub mod WeightLoop
+pub mod Shapes

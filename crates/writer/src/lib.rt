@@ -3,4 +3,4 @@ mod marks; // every single field, as it is, tested, or there only under a condit
 mod operations; // the lists: codes with operands, and the closing code
 mod modification; // ref_pic_list_modification( )
 mod marking; // dec_ref_pic_marking( )
-mod weights; // pred_weight_table( )
+mod weight_table; // pred_weight_table( )

@@ -1,12 +1,11 @@
 use mathlib.Core.Path.{sym}
 use Prim.Native.Nat.{_-_}
 use borrow.Author.Needs.{needs}
+use borrow.Author.Tests.{eq-eqb, ne-eqb}
 use Rattle.syntax.specs.Marks.{isZero}
 use Rattle.writer.proofs.Unused.{Unused, unused-many, unused-none, unused-next, unused-found, unused-all}
 use Rattle.writer.proofs.operations.is_padded.Statement.{statement}
 use Rattle.writer.proofs.operations.is_padded.Tie as tie
-use Rattle.writer.proofs.operations.is_padded.Reads as reads
-use Rattle.writer.proofs.operations.is_padded.Lts as lts
 
 abbrev Inv-loop : tie.InvT-loop
 Inv-loop a count i₀ i = Unused isZero 66 count a i
@@ -14,39 +13,30 @@ Inv-loop a count i₀ i = Unused isZero 66 count a i
 abbrev μ-loop : tie.MeasureT-loop
 μ-loop a count i₀ i = 66 - i
 
--- src/operations.rt:14:9
 returns : tie.Need-returns Inv-loop μ-loop
 returns c = sym (unused-many _ _ _ _ (c .if1 .taken))
 
--- src/operations.rt:17:5
 loop-holds : tie.Need-loop-holds Inv-loop μ-loop
-loop-holds c = unused-none _ _ _ _ (c .if1 .left) (search needs)
+loop-holds c = unused-none _ _ _ _ (c .if1 .left) (c .before .pre)
 
--- src/operations.rt:18:12
 mul-if2 : tie.Need-mul-if2 Inv-loop μ-loop
 mul-if2 c = search needs
 
--- src/operations.rt:18:12
 element-copy-out-if2 : tie.Need-element-copy-out-if2 Inv-loop μ-loop
 element-copy-out-if2 c = search needs
 
--- src/operations.rt:19:13
 returns-2 : tie.Need-returns-2 Inv-loop μ-loop
-returns-2 c = sym (unused-found _ _ _ _ (c .before .before .before .loop .inv) 0 (c .before .before .loop-test .taken) ?)
+returns-2 c = sym (unused-found _ _ _ _ (c .before .before .before .loop .inv) 0 (c .before .before .loop-test .taken) (ne-eqb _ _ (c .if2 .taken)))
 
--- src/operations.rt:21:9
 add-i : tie.Need-add-i Inv-loop μ-loop
 add-i c = search needs
 
--- src/operations.rt:17:5
 loop-less : tie.Need-loop-less Inv-loop μ-loop
 loop-less c = search needs
 
--- src/operations.rt:17:5
 loop-again : tie.Need-loop-again Inv-loop μ-loop
-loop-again c = unused-next _ _ _ _ (c .before .before .before .loop .inv) 0 (c .before .before .loop-test .taken) ?
+loop-again c = unused-next _ _ _ _ (c .before .before .before .loop .inv) 0 (c .before .before .loop-test .taken) (eq-eqb _ _ (c .if2 .left))
 
--- src/operations.rt:10:1
 returns-3 : tie.Need-returns-3 Inv-loop μ-loop
 returns-3 c = sym (unused-all _ _ _ _ (c .before .loop .inv) (c .loop-test .left))
 
