@@ -1,5 +1,9 @@
 pub mod Fields
 pub mod Stages
+pub mod Unused
+pub mod OperationLoop
+pub mod WeightLoop
+pub mod Shapes
 pub mod Passed
 pub mod Answers
 pub mod Room

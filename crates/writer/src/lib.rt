@@ -5,6 +5,7 @@ mod marks; // every single field, as it is, tested, or there only under a condit
 mod frame; // colour_plane_id to idr_pic_id
 mod order; // pic_order_cnt_lsb to redundant_pic_cnt
 mod counts; // direct_spatial_mv_pred_flag to num_ref_idx_l1_active_minus1
+mod operations; // the lists: codes with operands, and the closing code
 mod modification; // ref_pic_list_modification( )
 mod weight_table; // pred_weight_table( )
 mod marking; // dec_ref_pic_marking( )
