@@ -26,7 +26,7 @@ pub struct MarkingRead {
     pub end: End,
 }
 
-fn marking_kind() -> ListKind
+pub fn marking_kind() -> ListKind
     ensures { λ r. ⌜ kindOf r ≡ markingKind ⌝ }
 {
     ListKind {

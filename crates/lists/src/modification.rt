@@ -43,7 +43,7 @@ fn greatest(mvc: bool) -> u32
     if mvc { 5 } else { 3 }
 }
 
-fn modification_kind(mvc: bool) -> ListKind
+pub fn modification_kind(mvc: bool) -> ListKind
     ensures { λ r. ⌜ kindOf r ≡ modificationKind mvc ⌝ }
 {
     ListKind {

@@ -44,13 +44,13 @@ pub fn none() -> Operations
 }
 
 // Whether a code has a first operand, and a second.
-fn has_first(kind: ListKind, code: u32) -> bool
+pub fn has_first(kind: ListKind, code: u32) -> bool
     ensures { λ r. ⌜ r ≡ kindOf kind .hasFirst code ⌝ }
 {
     if kind.marking { code != 5 } else { true }
 }
 
-fn has_second(kind: ListKind, code: u32) -> bool
+pub fn has_second(kind: ListKind, code: u32) -> bool
     ensures { λ r. ⌜ r ≡ kindOf kind .hasSecond code ⌝ }
 {
     if kind.marking { code == 3 } else { false }

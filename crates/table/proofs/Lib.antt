@@ -13,3 +13,4 @@ pub mod PutShell
 pub mod WithShell
 pub mod ReadShell
 pub mod WalkShell
+pub mod WriteShell

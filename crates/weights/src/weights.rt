@@ -45,7 +45,7 @@ pub fn no_table() -> PredWeightTable
     }
 }
 
-fn count_if(there: bool, n: u32) -> u32
+pub fn count_if(there: bool, n: u32) -> u32
     ensures { λ r. ⌜ r ≡ pick there n 0 ⌝ }
 {
     if there { n } else { 0 }

@@ -1,2 +1,13 @@
 pub mod Fields
 pub mod Stages
+pub mod Unused
+pub mod OperationLoop
+pub mod WeightLoop
+pub mod Shapes
+pub mod Passed
+pub mod Answers
+pub mod Room
+pub mod Copies
+pub mod Known
+pub mod Units
+pub mod RoundTrip

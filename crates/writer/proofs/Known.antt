@@ -1,0 +1,155 @@
+-- The header's format once its sets are known: it is the format by the table, and a buffer of 6,144 bytes has room for its bits.
+use Prim.Native.Nat.{ℕ, _+_, _*_, _≤_, _<_}
+use mathlib.Core.Path.{_≡_, refl, sym, ap, ap₂, subst, _∙_}
+use mathlib.Core.List.{List, _++_}
+use mathlib.Core.Bool.{Bool, true, false, _&&_}
+use native.Mathlib.Omega.{arith}
+use native.Mathlib.Nat.{zero-add}
+use lib.Dec.{T, leb, eqb}
+use lib.IntN.{pos}
+use lib.ListN.{length}
+use Rattle.bits.specs.declared.read.Cursor.{Cursor}
+use Rattle.bits.specs.Refusals.{pick, refusal, noBits}
+use Rattle.bits.specs.Bits.{Bits, bitsOf}
+use Rattle.bits.specs.Put.{written, bytesFor}
+use Rattle.bits.proofs.Results.{cases}
+use Rattle.fmt.specs.Fmt.{seq, shaped, test}
+use Rattle.fmt.specs.Leaves.{ue}
+use Rattle.fmt.proofs.Lawful.{both-false, T-true}
+use Rattle.fmt.proofs.Sizes.{Short, ue-short}
+use Rattle.fmt.proofs.Puts.{Done, Stopped}
+use Rattle.table.specs.declared.sets.Picture.{Picture}
+use Rattle.table.specs.declared.sets.Sequence.{Sequence}
+use Rattle.table.specs.declared.table.Table.{Table}
+use Rattle.table.specs.declared.words.FoundPicture.{FoundPicture}
+use Rattle.table.specs.declared.words.FoundSequence.{FoundSequence}
+use Rattle.table.specs.Tables.{pictureAt, sequenceAt}
+use Rattle.syntax.specs.declared.context.UnitKind.{UnitKind}
+use Rattle.syntax.specs.declared.context.Context.{Context}
+use Rattle.syntax.specs.declared.record.SliceHeader.{SliceHeader}
+use Rattle.syntax.specs.Context.{pictureFor, sequenceIdFor, sequenceFor, contextFor}
+use Rattle.syntax.specs.SliceHeader.{pictureSetId, lead, ofHeader, header}
+use Rattle.syntax.proofs.Sizes.{then, sliceType-short}
+use Rattle.syntax.proofs.Sets.{Few, defaults-few}
+use Rattle.syntax.proofs.HeaderSize.{parts-short}
+use Rattle.writer.specs.declared.sets.SetsFor.{SetsFor}
+use Rattle.writer.specs.Write.{withPicture, withSequence, setsFor, HeaderOut, untouched, outOf, bitsOut}
+use Rattle.writer.specs.Stages.{fields, isKnown, knownOut, copied}
+use Rattle.writer.proofs.Passed.{picture-is, sequence-id}
+use Rattle.writer.proofs.Room.{room-bits}
+use Rattle.writer.proofs.Copies.{copied-written}
+
+-- ---- by the table
+
+-- the sets that were found
+record Are (t : Table) (id : ℕ) (p : Picture) (s : Sequence) : Type 0 where
+  low : leb id 255 ≡ true
+  picture : pictureAt t id ≡ FoundPicture.There p
+  sequence : sequenceAt t (p .«seq_parameter_set_id») ≡ FoundSequence.There s
+
+module _ (t : Table) (id : ℕ) (p : Picture) (s : Sequence) where
+  with-sequence : leb id 255 ≡ true → (q : Picture) → pictureAt t id ≡ FoundPicture.There q → (f : FoundSequence) → sequenceAt t (q .«seq_parameter_set_id») ≡ f
+      → withSequence q f ≡ SetsFor.There p s → Are t id p s
+  with-sequence l q k (FoundSequence.There r) g e =
+      let i : q ≡ p = (cc e) in
+      let j : r ≡ s = (cc e) in
+      record { low = l; picture = k ∙ ap FoundPicture.There i; sequence = ap (λ (x : Picture). sequenceAt t (x .«seq_parameter_set_id»)) (sym i) ∙ g ∙ ap FoundSequence.There j }
+  with-sequence l q k FoundSequence.Absent g e = absurd (let z : _≡_ {A = ℕ} 0 1 = (cc e) in omega arith)
+
+  with-picture : leb id 255 ≡ true → (f : FoundPicture) → pictureAt t id ≡ f → withPicture t id f ≡ SetsFor.There p s → Are t id p s
+  with-picture l (FoundPicture.There q) k e = with-sequence l q k (sequenceAt t (q .«seq_parameter_set_id»)) refl e
+  with-picture l FoundPicture.Absent k e = absurd (let z : _≡_ {A = ℕ} 0 1 = (cc e) in omega arith)
+
+  sets-are : setsFor t id ≡ SetsFor.There p s → Are t id p s
+  unfolding setsFor
+  sets-are e =
+      cases (leb id 255)
+      (λ l. with-picture l (pictureAt t id) refl (rw l at e))
+      (λ l. let w = rw l at e in absurd (let z : _≡_ {A = ℕ} 0 1 = (cc w) in omega arith))
+
+  module _ (a : Are t id p s) where
+    sequence-is : sequenceFor t id ≡ s
+    unfolding sequenceFor
+    sequence-is = rw (sequence-id t id (a .picture), a .sequence)
+
+    context-is : (n : UnitKind) → contextFor t n id ≡ record { kind = n; picture = p; sequence = s }
+    unfolding contextFor
+    context-is n = λ i. record { kind = n; picture = picture-is t id (a .picture) i; sequence = sequence-is i }
+
+    id-good : pictureSetId t .good id ≡ ue .good id
+    unfolding pictureSetId test
+    id-good = rw (sequence-id t id (a .picture), a .sequence, a .picture, a .low)
+
+-- its counts of references are those of a set within the ranges
+pub known-few : (t : Table) (id : ℕ) (p : Picture) (s : Sequence) → setsFor t id ≡ SetsFor.There p s → Few p
+known-few t id p s e = subst Few (picture-is t id (sets-are t id p s e .picture)) (defaults-few t id)
+
+module _ (t : Table) (n : UnitKind) (h : SliceHeader) (out : List ℕ) (p : Picture) (s : Sequence) (e : setsFor t (h .«pic_parameter_set_id») ≡ SetsFor.There p s) where
+  abbrev id : ℕ
+  id = h .«pic_parameter_set_id»
+
+  abbrev x : Context
+  x = record { kind = n; picture = p; sequence = s }
+
+  good-known : header t n .good h ≡ isKnown x h
+  unfolding header shaped seq lead
+  good-known =
+      let a = sets-are t id p s e in
+      rw (sequence-id t id (a .picture), id-good t id p s a, context-is t id p s a n)
+
+  bits-known : header t n .bits h ≡ fields x .bits (ofHeader h)
+  unfolding header shaped seq lead pictureSetId test
+  bits-known = rw (context-is t id p s (sets-are t id p s e) n)
+
+  pub known-out : knownOut x h out ≡ bitsOut t n h out
+  unfolding knownOut bitsOut
+  known-out = ap₂ (λ (g : Bool) (l : Bits). outOf (written g l out 0)) (sym good-known) (sym bits-known)
+
+-- ---- in the stages' buffer
+
+fields-short : (x : Context) → Short (fields x) 43199
+fields-short x = then (then ue-short (λ m. then sliceType-short (λ k. ue-short))) (λ l. parts-short x _)
+
+module _ (x : Context) (h : SliceHeader) where
+  abbrev l : Bits
+  l = fields x .bits (ofHeader h)
+
+  abbrev same : Bool
+  same = eqb (h .«seq_parameter_set_id») (x .picture .«seq_parameter_set_id»)
+
+  most : T (fields x .good (ofHeader h)) → length l ≤ 8 * 6144
+  most g = omega (arith, fields-short x .most (ofHeader h) g)
+
+  -- 25: the record's seq_parameter_set_id is not the picture set's
+  pub known-other : (out : List ℕ) → same ≡ false → knownOut x h out ≡ untouched (refusal noBits (pos 0) 0) out
+  unfolding knownOut written
+  known-other out q = rw q
+
+  module _ (d : List ℕ) (len : length d ≡ 6144) where
+    room : T (fields x .good (ofHeader h)) → length l ≤ length (bitsOf d)
+    room g = let m = most g in room-bits d (length l) m (omega (arith, len))
+
+    -- 25: a part was refused, which was not for want of room
+    pub known-stopped : (out : List ℕ) → same ≡ true → Stopped (fields x) (ofHeader h) d 0 → knownOut x h out ≡ untouched (refusal noBits (pos 0) 0) out
+    unfolding knownOut written
+    known-stopped out q w =
+        cases (fields x .good (ofHeader h))
+        (λ g.
+        let t : T (fields x .good (ofHeader h)) = rw g tt in
+        absurd (omega (arith, w .no-room t, room t, zero-add (length l))))
+        (λ g. rw (q, g))
+
+    module _ {d' : List ℕ} {c : Cursor} (w : Done (fields x) (ofHeader h) d 0 d' c) where
+      at-is : c .at ≡ length l
+      at-is = w .place ∙ zero-add (length l)
+
+      pub done-most : c .at ≤ 8 * 6144
+      done-most = rw at-is (most (w .is-good))
+
+      -- all parts were written: their bytes go out
+      pub known-done : (out : List ℕ) → same ≡ true → copied d' (c .at) out ≡ knownOut x h out
+      unfolding knownOut
+      known-done out q =
+          (λ i. copied (w .now-is i) (at-is i) out)
+          ∙ copied-written d l out (most (w .is-good)) (omega (arith, len, most (w .is-good)))
+          ∙ ap (λ (g : Bool). outOf (written g l out 0)) (sym (rw (q, T-true (fields x .good (ofHeader h)) (w .is-good))))

@@ -1,0 +1,42 @@
+use mathlib.Core.Path.{sym, _∙_}
+use Rattle.syntax.specs.Lists.{operationsIf}
+use Rattle.writer.proofs.Fields.{given-there, given-absent, given-unfit}
+use borrow.Author.Needs.{needs}
+use Rattle.writer.proofs.operations.put_operations_if.Statement.{statement}
+use Rattle.writer.proofs.operations.put_operations_if.Tie as tie
+
+put-operations-requires : tie.Need-put-operations-requires
+put-operations-requires c κs = search needs
+
+same-length : tie.Need-same-length
+same-length c = c .before .before .put-operations .kept .0
+
+returns : tie.Need-returns
+unfolding operationsIf
+returns c = given-there _ _ _ _ _ (c .before .before .before .before .if1 .taken) (c .before .before .put-operations .ensures)
+
+is-none-requires : tie.Need-is-none-requires
+is-none-requires c κs = search needs
+
+refuse-requires : tie.Need-refuse-requires
+refuse-requires c κs = search needs
+
+returns-2 : tie.Need-returns-2
+unfolding operationsIf
+returns-2 c = given-absent _ _ _ _ _ (c .before .before .if1 .left) (sym (c .before .is-none .ensures) ∙ c .if2 .taken)
+
+returns-3 : tie.Need-returns-3
+unfolding operationsIf
+returns-3 c = given-unfit _ _ _ _ _ (c .before .before .before .if1 .left) (sym (c .before .before .is-none .ensures) ∙ c .before .if2 .left)
+
+pub put-operations-if-spec : {M : Type 1} → statement M
+put-operations-if-spec =
+    tie.close
+    (tie.spec
+    put-operations-requires
+    same-length
+    returns
+    is-none-requires
+    refuse-requires
+    returns-2
+    returns-3)

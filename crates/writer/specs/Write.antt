@@ -1,0 +1,75 @@
+-- Writing a slice header into a lent buffer, as document 01 has it ('Refusal numbers', its last lines; 'The header, field by field', its last lines).
+use Prim.Native.Nat.{ℕ}
+use mathlib.Core.List.{List}
+use lib.Dec.{leb}
+use lib.IntN.{pos}
+use Rattle.bits.specs.Refusals.{pick, refusal}
+use Rattle.bits.specs.Answers.{none}
+use Rattle.bits.specs.Put.{Written, written}
+use Rattle.bits.specs.declared.refusals.Refusal.{Refusal}
+use Rattle.bits.specs.declared.put.Wrote.{Wrote}
+use Rattle.table.specs.declared.sets.Picture.{Picture}
+use Rattle.table.specs.declared.table.Table.{Table}
+use Rattle.table.specs.declared.words.FoundPicture.{FoundPicture}
+use Rattle.table.specs.declared.words.FoundSequence.{FoundSequence}
+use Rattle.table.specs.Tables.{pictureAt, sequenceAt}
+use Rattle.syntax.specs.declared.context.UnitKind.{UnitKind}
+use Rattle.syntax.specs.declared.record.SliceHeader.{SliceHeader}
+use Rattle.syntax.specs.SliceHeader.{header}
+use Rattle.writer.specs.declared.given.ExtensionGiven.{ExtensionGiven}
+use Rattle.writer.specs.declared.given.KindGiven.{KindGiven}
+use Rattle.writer.specs.declared.sets.SetsFor.{SetsFor}
+use Rattle.writer.specs.declared.write.HeaderWrote.{HeaderWrote}
+use Rattle.writer.specs.Given.{kindGiven}
+
+-- ---- 8, 9 and 10, with the values that reading has
+
+abbrev pub withSequence : Picture → FoundSequence → SetsFor
+withSequence p (FoundSequence.There s) = SetsFor.There p s
+withSequence p FoundSequence.Absent = SetsFor.Refused (refusal 10 (pos (p .«seq_parameter_set_id»)) 0)
+
+abbrev pub withPicture : Table → ℕ → FoundPicture → SetsFor
+withPicture t id (FoundPicture.There p) = withSequence p (sequenceAt t (p .«seq_parameter_set_id»))
+withPicture t id FoundPicture.Absent = SetsFor.Refused (refusal 9 (pos id) 0)
+
+unfoldable pub setsFor : Table → ℕ → SetsFor
+setsFor t id = pick (leb id 255) (withPicture t id (pictureAt t id)) (SetsFor.Refused (refusal 8 (pos id) 0))
+
+abbrev pub whySets : SetsFor → Refusal
+whySets (SetsFor.There p s) = none
+whySets (SetsFor.Refused r) = r
+
+-- ---- the header
+
+-- the answer, and the buffer at exit
+pub record HeaderOut : Type 0 where
+  pub answer : HeaderWrote
+  pub left : List ℕ
+
+-- a refusal, which leaves the buffer as it was
+abbrev pub untouched : Refusal → List ℕ → HeaderOut
+untouched r out = record { answer = HeaderWrote.Refused r; left = out }
+
+-- the answer is the place after the header's bits: how many they are
+abbrev pub wroteOf : Wrote → HeaderWrote
+wroteOf (Wrote.At c) = HeaderWrote.Bits (c .at)
+wroteOf (Wrote.Refused r) = HeaderWrote.Refused r
+
+abbrev pub outOf : Written → HeaderOut
+outOf w = record { answer = wroteOf (w .answer); left = w .left }
+
+-- 25, then 26, then the header's bits from the front of the buffer, with zeros to the end of their last byte
+unfoldable pub bitsOut : Table → UnitKind → SliceHeader → List ℕ → HeaderOut
+bitsOut t n h out = outOf (written (header t n .good h) (header t n .bits h) out 0)
+
+abbrev pub afterSets : Table → UnitKind → SliceHeader → List ℕ → SetsFor → HeaderOut
+afterSets t n h out (SetsFor.There p s) = bitsOut t n h out
+afterSets t n h out (SetsFor.Refused r) = untouched r out
+
+abbrev pub afterKind : Table → SliceHeader → List ℕ → KindGiven → HeaderOut
+afterKind t h out (KindGiven.Of n) = afterSets t n h out (setsFor t (h .«pic_parameter_set_id»))
+afterKind t h out (KindGiven.Refused r) = untouched r out
+
+-- a first byte, an extension or none, and the record, by the table
+unfoldable pub writeHeader : Table → ℕ → ExtensionGiven → SliceHeader → List ℕ → HeaderOut
+writeHeader t first x h out = afterKind t h out (kindGiven first x)
