@@ -33,8 +33,10 @@ mod prefix;
 pub mod raw;
 mod refusal;
 mod slice;
+mod stream;
 mod table;
 mod unit;
+mod walk;
 
 pub use nal::{
     NalHeader, NalHeaderExtension, NalHeaderMvcExtension, NalHeaderSvcExtension, UnitType,
@@ -47,8 +49,10 @@ pub use slice::{
     ModificationOfPicNums, NumRefIdxActive, PicOrderCountLsb, PredWeight, PredWeightTable,
     RefPicListModifications, SliceExclusive, SliceFamily, SliceHeader, SliceType,
 };
+pub use stream::{Stream, StreamReport};
 pub use table::Table;
 pub use unit::{read_unit, read_unit_raw, Slice, Unit};
+pub use walk::{reports, Report, Reports};
 
 /// The greatest length of a unit or a recording that one call takes, in bytes; beyond it the answer is refusal 27.
 pub const LIMIT: usize = 268_435_456;

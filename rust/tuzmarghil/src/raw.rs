@@ -78,3 +78,38 @@ pub fn read_unit(table: &Table, unit: &[u8], scratch: &mut [u8], out: &mut ReadO
     // SAFETY: each pointer and length is that of a live slice, and the call requires nothing.
     unsafe { tuz_read_unit(out, table, u, unit.len(), s, scratch.len()) }
 }
+
+/// A step of the walk: `step` is 0 at the end, 1 for a unit, 2 where the recording is over the limit.
+#[derive(Clone, Copy, Debug, PartialEq, Eq)]
+pub struct WalkOut {
+    pub step: u32,
+    pub place: usize,
+    pub length: usize,
+    pub next: usize,
+    pub read: ReadOut,
+}
+
+plain!(WalkOut);
+
+pub fn walk(table: &Table, recording: &[u8], from: usize, scratch: &mut [u8], out: &mut WalkOut) {
+    use crate::stream::mark;
+    *out = WalkOut::default();
+    if recording.len() > crate::LIMIT {
+        (out.step, out.read.answer, out.read.number) = (2, 3, 27);
+        return;
+    }
+    let Some(start) = recording.get(from..).and_then(|rest| mark(rest, 1)) else {
+        return;
+    };
+    let place = from + start + 3;
+    let rest = &recording[place..];
+    let (length, next) = match mark(rest, 0) {
+        Some(end) => (end, place + end),
+        None => {
+            let kept = rest.iter().rposition(|b| *b != 0);
+            (kept.map_or(0, |i| i + 1), recording.len())
+        }
+    };
+    (out.step, out.place, out.length, out.next) = (1, place, length, next);
+    read_unit(table, &rest[..length], scratch, &mut out.read);
+}
