@@ -44,8 +44,9 @@ impl Clip {
         if self.sample {
             return words::table(SAMPLE.split(' '));
         }
-        let Some(path) = &self.table else {
-            return Ok(Table::new());
+        let path = match &self.table {
+            Some(path) => path,
+            None => return Ok(Table::new()),
         };
         let mut text = String::new();
         let read = open(path)?.read_to_string(&mut text);

@@ -13,8 +13,9 @@
 //! table.put_picture(0, Picture::default())?;
 //!
 //! let mut scratch = Vec::new();
-//! let Unit::Slice(slice) = read_unit(&table, &[0x65, 0x88, 0x84, 0xA0], &mut scratch)? else {
-//!     panic!("not a slice")
+//! let slice = match read_unit(&table, &[0x65, 0x88, 0x84, 0xA0], &mut scratch)? {
+//!     Unit::Slice(slice) => slice,
+//!     other => panic!("{other:?}"),
 //! };
 //! assert_eq!(slice.header.slice_type.family, SliceFamily::I);
 //! assert_eq!(slice.header.frame_num, 0);

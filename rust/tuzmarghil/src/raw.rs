@@ -98,8 +98,9 @@ pub fn walk(table: &Table, recording: &[u8], from: usize, scratch: &mut [u8], ou
         (out.step, out.read.answer, out.read.number) = (2, 3, 27);
         return;
     }
-    let Some(start) = recording.get(from..).and_then(|rest| mark(rest, 1)) else {
-        return;
+    let start = match recording.get(from..).and_then(|rest| mark(rest, 1)) {
+        Some(start) => start,
+        None => return,
     };
     let place = from + start + 3;
     let rest = &recording[place..];
