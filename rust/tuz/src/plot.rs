@@ -45,7 +45,8 @@ pub fn draw(name: &str, points: &[Point], end: u64, path: &Path) -> Result<()> {
     if least > greatest {
         (least, greatest) = (0, 51);
     }
-    let (low, high) = (least - 2, greatest + 2);
+    // room above for the legend
+    let (low, high) = (least - 2, greatest + 2 + (greatest - least) / 3);
 
     let area = SVGBackend::new(path, SIZE).into_drawing_area();
     area.fill(&WHITE)?;
@@ -87,6 +88,7 @@ pub fn draw(name: &str, points: &[Point], end: u64, path: &Path) -> Result<()> {
     }
     chart
         .configure_series_labels()
+        .position(SeriesLabelPosition::UpperRight)
         .background_style(WHITE.mix(0.85))
         .border_style(RGBColor(200, 200, 200))
         .draw()?;
