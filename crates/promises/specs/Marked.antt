@@ -3,6 +3,7 @@ use mathlib.Core.Path.{_≡_}
 use mathlib.Core.List.{List, [], _∷_}
 use Prim.Native.Nat.{ℕ}
 use lib.IntN.{ℤ, pos, negsuc}
+use lib.ListN.{length, replicate}
 use Rattle.bits.specs.Refusals.{Res, got, no, refusal}
 use Rattle.bits.specs.Bits.{bitsOf}
 use Rattle.bits.specs.Codes.{ueAt, seAt}
@@ -11,6 +12,12 @@ use Rattle.nal.specs.Body.{body}
 use Rattle.syntax.specs.declared.record.SliceHeader.{SliceHeader}
 use Rattle.syntax.specs.SliceHeader.{readHeader}
 use Rattle.syntax.specs.Sample.{sampleTable, sampleKind, sampleHeader}
+use Rattle.lists.specs.Absent.{noPrefix}
+use Rattle.unit.specs.declared.answer.UnitAnswer.{UnitAnswer}
+use Rattle.unit.specs.declared.answer.UnitRead.{UnitRead}
+use Rattle.unit.specs.Answer.{only}
+use Rattle.walk.specs.Units.{Report}
+use Rattle.walk.specs.Reports.{reports}
 
 pub data Example : Type 0 where
   -- bytes whose first code is read, and what reading gives
@@ -22,6 +29,8 @@ pub data Example : Type 0 where
   header : List ℕ → Res SliceHeader → Example
   -- size, rate, and the change cycle's width
   width : ℕ → ℕ → ℕ → Example
+  -- a recording, and the reports of a walk over it with the sample sets and scratch of its length
+  walk : List ℕ → List (Report UnitRead) → Example
 
 abbrev pub Holds : Example → Type 0
 Holds (ue s r) = ueAt (bitsOf s) 0 ≡ r
@@ -29,6 +38,7 @@ Holds (se s r) = seAt (bitsOf s) 0 ≡ r
 Holds (unescaped s b) = body 0 s ≡ b
 Holds (header s r) = readHeader sampleTable sampleKind (bitsOf s) ≡ r
 Holds (width size rate b) = changeCycleWidth size rate ≡ b
+Holds (walk s rs) = reports sampleTable (replicate (length s) 0) s ≡ rs
 
 abbrev pub All : List Example → Type 0
 All [] = Unit {0}
@@ -57,4 +67,9 @@ marked =
     ∷ width 7 1 3
     ∷ width 8 1 4
     ∷ width 1 5 1
+    -- P12
+    ∷ walk (0 ∷ 0 ∷ 0 ∷ 1 ∷ 0x65 ∷ 0x88 ∷ 0x84 ∷ 0xA0 ∷ 0 ∷ 0 ∷ 1 ∷ 0x09 ∷ 0xF0 ∷ [])
+    (record { place = 4; length = 4; next = 8; read = record { answer = UnitAnswer.Slice 17; header = sampleHeader; prefix = noPrefix } }
+    ∷ record { place = 11; length = 2; next = 13; read = only (UnitAnswer.Other 9) }
+    ∷ [])
     ∷ []

@@ -12,3 +12,4 @@ pub mod LookShell
 pub mod PutShell
 pub mod WithShell
 pub mod ReadShell
+pub mod WalkShell

@@ -8,10 +8,11 @@ use Rattle.table.specs.declared.table.Table.{Table}
 use Rattle.table.proofs.table.Table as T
 use Rattle.table.proofs.table.Table.Laws as T′
 
-abbrev S : Field
+-- the two arrays
+abbrev pub S : Field
 S = sequences-field
 
-abbrev P : Field
+abbrev pub P : Field
 P = pictures-field
 
 -- Inner: what the function called says of the sequences, the pictures, the unit and the scratch at entry, of the result, and of the scratch at exit; Outer: what the shell says of the table and the same; hence: the one gives the other

@@ -2,3 +2,4 @@ pub mod Opened
 pub mod Answers
 pub mod Cases
 pub mod Examples
+pub mod Rooms

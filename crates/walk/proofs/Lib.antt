@@ -1,0 +1,10 @@
+pub mod Hits
+pub mod Trims
+pub mod Nexts
+pub mod Chain
+pub mod Steps
+pub mod Resync
+pub mod Border
+pub mod State
+pub mod Demand
+pub mod Examples

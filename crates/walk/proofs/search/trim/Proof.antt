@@ -1,0 +1,68 @@
+use borrow.Author.Needs.{needs}
+use native.Mathlib.Omega.{arith}
+use mathlib.Core.Path.{_≡_, refl, sym, ap, _∙_}
+use Prim.Native.Nat.{ℕ, _+_, _-_, _≤_}
+use lib.ListN.{length, drop, take, length-drop}
+use Rattle.walk.specs.Walk.{kept}
+use Rattle.walk.proofs.Trims.{trim-on, trim-stop, trim-start}
+use Rattle.walk.proofs.search.trim.Statement.{statement}
+use Rattle.walk.proofs.search.trim.Tie as tie
+
+abbrev Inv-loop : tie.InvT-loop
+Inv-loop s from e₀ e = (from ≤ e) × (e ≤ length s) × (kept (drop from s) ≡ kept (take (e - from) (drop from s)))
+
+abbrev μ-loop : tie.MeasureT-loop
+μ-loop s from e₀ e = e
+
+loop-holds : tie.Need-loop-holds Inv-loop μ-loop
+loop-holds c = (c .pre, omega arith, sym (trim-start (c .args .s .now) (c .args .from)))
+
+sub-if1 : tie.Need-sub-if1 Inv-loop μ-loop
+sub-if1 c = search needs
+
+shared-slice-read-if1 : tie.Need-shared-slice-read-if1 Inv-loop μ-loop
+shared-slice-read-if1 c = search needs
+
+sub-result : tie.Need-sub-result Inv-loop μ-loop
+sub-result c = search needs
+
+returns : tie.Need-returns Inv-loop μ-loop
+returns c =
+    let a = c .before .before .before .before .args in
+    let e = c .before .before .before .loop .e in
+    sym (c .before .before .before .loop .inv .2 ∙ trim-stop (a .s .now) (a .from) e (omega arith) (omega arith) (c .if1 .taken))
+
+sub-e : tie.Need-sub-e Inv-loop μ-loop
+sub-e c = search needs
+
+loop-less : tie.Need-loop-less Inv-loop μ-loop
+loop-less c = search needs
+
+loop-again : tie.Need-loop-again Inv-loop μ-loop
+loop-again c =
+    let a = c .before .before .before .before .args in
+    let e = c .before .before .before .loop .e in
+    (omega arith, omega arith, c .before .before .before .loop .inv .2 ∙ trim-on (a .s .now) (a .from) e (omega arith) (omega arith) (c .if1 .left))
+
+returns-2 : tie.Need-returns-2 Inv-loop μ-loop
+returns-2 c =
+    let a = c .before .before .args in
+    let e = c .before .loop .e in
+    let z : e - a .from ≡ 0 = omega arith in
+    sym (rw z at (c .before .loop .inv .2))
+
+pub trim-spec : {M : Type 1} → statement M
+trim-spec =
+    tie.close
+    (tie.spec
+    Inv-loop
+    μ-loop
+    loop-holds
+    sub-if1
+    shared-slice-read-if1
+    sub-result
+    returns
+    sub-e
+    loop-less
+    loop-again
+    returns-2)

@@ -1,0 +1,4 @@
+pub mod Walk
+pub mod Walked
+pub mod Units
+pub mod Reports

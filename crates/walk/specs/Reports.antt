@@ -1,0 +1,53 @@
+-- The reports of a walk over a whole recording, and the parts of them that demand 3 speaks of.
+use Prim.Native.Nat.{ℕ, zero, suc, _+_, _-_}
+use mathlib.Core.List.{List, [], _∷_}
+use mathlib.Core.Bool.{Bool}
+use lib.Dec.{leb}
+use lib.ListN.{length}
+use Rattle.bits.specs.Refusals.{pick}
+use Rattle.table.specs.declared.table.Table.{Table}
+use Rattle.unit.specs.declared.answer.UnitRead.{UnitRead}
+use Rattle.walk.specs.declared.walk.Step.{Step}
+use Rattle.walk.specs.Units.{Report}
+use Rattle.walk.specs.Walked.{WalkOut, walked}
+
+-- the report of a step, and those of the steps from where it says to go on
+abbrev pub onward : Step → UnitRead → (ℕ → List (Report UnitRead)) → List (Report UnitRead)
+onward (Step.Unit place length next) read rest = record { place = place; length = length; next = next; read = read } ∷ rest next
+onward Step.End read rest = []
+onward (Step.Refused r) read rest = []
+
+abbrev pub andOn : WalkOut → (ℕ → List ℕ → List (Report UnitRead)) → List (Report UnitRead)
+andOn out rest = onward (out .walked .step) (out .walked .read) (λ next. rest next (out .left))
+
+-- at most f steps, the first from `from`; each is lent scratch as the one before left it
+abbrev pub reportsBy : ℕ → Table → List ℕ → ℕ → List ℕ → List (Report UnitRead)
+reportsBy zero t s from scratch = []
+reportsBy (suc f) t s from scratch = andOn (walked t s from scratch) (reportsBy f t s)
+
+-- all reports of the recording s: it has fewer units than bytes
+abbrev pub reports : Table → List ℕ → List ℕ → List (Report UnitRead)
+reports t scratch s = reportsBy (length s) t s 0 scratch
+
+-- ---- parts of a list of reports
+
+-- the entries that pass a test
+abbrev pub sift : {A : Type 0} → (A → Bool) → List A → List A
+sift p [] = []
+sift p (x ∷ xs) = pick (p x) (x ∷ sift p xs) (sift p xs)
+
+-- those whose start code begins at k or later
+abbrev pub startsFrom : {A : Type 0} → ℕ → List (Report A) → List (Report A)
+startsFrom {A} k rs = sift (λ (u : Report A). leb (k + 3) (u .place)) rs
+
+-- those whose start code lies wholly before k
+abbrev pub startsBefore : {A : Type 0} → ℕ → List (Report A) → List (Report A)
+startsBefore {A} k rs = sift (λ (u : Report A). leb (u .place) k) rs
+
+-- those whose end mark lies wholly before k. A unit without one goes on from the recording's end, and is none of them
+abbrev pub endsBefore : {A : Type 0} → ℕ → List (Report A) → List (Report A)
+endsBefore {A} k rs = sift (λ (u : Report A). leb (u .next + 3) k) rs
+
+-- a report with its places counted from the recording's end, which is n
+abbrev pub toEnd : {A : Type 0} → ℕ → Report A → Report A
+toEnd n u = record { place = n - u .place; length = u .length; next = n - u .next; read = u .read }

@@ -1,0 +1,39 @@
+-- One step of the walk (document 01, 'Units and bodies'): its answer, and scratch at exit.
+use Prim.Native.Nat.{ℕ}
+use mathlib.Core.List.{List}
+use lib.Dec.{leb}
+use lib.IntN.{pos}
+use lib.ListN.{length, take, drop}
+use Rattle.bits.specs.Refusals.{pick, refusal, tooLarge, limit}
+use Rattle.table.specs.declared.table.Table.{Table}
+use Rattle.unit.specs.declared.answer.UnitAnswer.{UnitAnswer}
+use Rattle.unit.specs.Answer.{only}
+use Rattle.unit.specs.Unit.{UnitOut, unitRead}
+use Rattle.walk.specs.declared.search.Found.{Found}
+use Rattle.walk.specs.declared.walk.Step.{Step}
+use Rattle.walk.specs.declared.walk.Walked.{Walked}
+use Rattle.walk.specs.Walk.{nextUnit}
+
+-- what is answered, and scratch at exit
+pub record WalkOut : Type 0 where
+  pub walked : Walked
+  pub left : List ℕ
+
+-- a step to no unit: nothing is read
+unfoldable pub nothing : Step → Walked
+nothing s = record { step = s; read = only (UnitAnswer.Other 0) }
+
+-- a step to a unit, and what reading it gives
+abbrev pub reading : ℕ → ℕ → ℕ → UnitOut → WalkOut
+reading place length next u = record { walked = record { step = Step.Unit place length next; read = u .read }; left = u .left }
+
+-- a unit is read; at the end scratch is as it was
+abbrev pub afterSearch : Table → List ℕ → List ℕ → Found → WalkOut
+afterSearch t recording scratch (Found.At place length next) = reading place length next (unitRead t (take length (drop place recording)) scratch)
+afterSearch t recording scratch Found.End = record { walked = nothing Step.End; left = scratch }
+
+-- 27 first
+unfoldable pub walked : Table → List ℕ → ℕ → List ℕ → WalkOut
+walked t recording from scratch =
+    pick (leb (length recording) limit) (afterSearch t recording scratch (nextUnit recording from))
+    (record { walked = nothing (Step.Refused (refusal tooLarge (pos 0) 0)); left = scratch })

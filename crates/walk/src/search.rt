@@ -1,0 +1,94 @@
+// Where a recording's units are. The start code is the fixed three bytes 00 00 01; a unit's end mark is 00 00 00 or 00 00 01.
+ghost use mathlib.Core.Path.{_≡_};
+ghost use Prim.Native.Nat.{_+_, _<_, _≤_};
+ghost use lib.ListN.{length, drop};
+ghost use Rattle.walk.specs.Walk.{hit, upto, kept, nextUnit};
+
+// What a search finds: a unit's first byte, its length and the place to go on from; or no unit.
+pub enum Found {
+    At {
+        place: usize,
+        length: usize,
+        next: usize,
+    },
+    End,
+}
+
+// Whether 00 00 and a byte from `least` to 1 stand at `i`: with 1 the start code, with 0 an end mark.
+fn hit_at(s: &[u8], i: usize, least: u8) -> bool
+    requires { ⌜ i + 2 < length (now s) ⌝ }
+    ensures { λ r. ⌜ r ≡ hit least (drop i (now (s .entry))) ⌝ }
+{
+    if s[i] != 0 {
+        return false;
+    }
+    if s[i + 1] != 0 {
+        return false;
+    }
+    let c = s[i + 2];
+    if c < least {
+        return false;
+    }
+    c <= 1
+}
+
+// The first place from `from` on where 00 00 and a byte from `least` to 1 stand, or the end.
+fn seek(s: &[u8], from: usize, least: u8) -> usize
+    requires { ⌜ from ≤ length (now s) ⌝ }
+    ensures { λ r. ⌜ r ≡ from + upto least (drop from (now (s .entry))) ⌝ }
+{
+    let n = s.len();
+    let mut i = from;
+    while 2 < n - i {
+        if hit_at(s, i, least) {
+            return i;
+        }
+        i += 1;
+    }
+    n
+}
+
+// How many bytes stand from `from` on, without the zero bytes at the end.
+fn trim(s: &[u8], from: usize) -> usize
+    requires { ⌜ from ≤ length (now s) ⌝ }
+    ensures { λ r. ⌜ r ≡ kept (drop from (now (s .entry))) ⌝ }
+{
+    let mut e = s.len();
+    while from < e {
+        if s[e - 1] != 0 {
+            return e - from;
+        }
+        e -= 1;
+    }
+    0
+}
+
+// The first unit whose start code begins at `from` or later.
+pub fn next_unit(recording: &[u8], from: usize) -> Found
+    ensures { λ r. ⌜ r ≡ nextUnit (now (recording .entry)) from ⌝ }
+{
+    let n = recording.len();
+    if n <= from {
+        return Found::End;
+    }
+    let at = seek(recording, from, 1);
+    if n <= at {
+        return Found::End;
+    }
+    let place = at + 3;
+    let next = seek(recording, place, 0);
+    if next < n {
+        Found::At {
+            place,
+            length: next - place,
+            next,
+        }
+    } else {
+        let length = trim(recording, place);
+        Found::At {
+            place,
+            length,
+            next,
+        }
+    }
+}
