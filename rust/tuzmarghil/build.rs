@@ -5,13 +5,14 @@ use std::{env, fs};
 
 /// The crate that exports, and the files whose `#[repr(C)]` structs cross the boundary.
 const EXPORTS: &str = "exports";
-const RECORDS: [&str; 6] = [
+const RECORDS: [&str; 7] = [
     "table/src/sets.rt",
     "table/src/table.rt",
     "syntax/src/marks.rt",
     "syntax/src/record.rt",
     "exports/src/sets.rt",
     "exports/src/units.rt",
+    "exports/src/walks.rt",
 ];
 
 fn main() {

@@ -2,3 +2,4 @@
 pub mod ue_run; // a run of codes
 pub mod sets; // the parameter table
 pub mod units; // whole units
+pub mod walks; // the walk over a recording

@@ -26,7 +26,7 @@ pub struct ReadOut {
     pub prefix: Prefix,
 }
 
-fn read_out(r: UnitRead) -> ReadOut
+pub(crate) fn read_out(r: UnitRead) -> ReadOut
     ensures { λ o. ⌜ o ≡ unitOut r ⌝ }
 {
     let answer = r.answer;

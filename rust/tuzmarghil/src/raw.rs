@@ -20,6 +20,15 @@ extern "C" {
         scratch: *mut u8,
         scratch_len: usize,
     );
+    fn tuz_walk(
+        out: *mut WalkOut,
+        table: *const Table,
+        recording: *const u8,
+        recording_len: usize,
+        from: usize,
+        scratch: *mut u8,
+        scratch_len: usize,
+    );
 }
 
 /// A record of numbers and flags alone, which zero bytes are a value of.
@@ -47,7 +56,7 @@ macro_rules! plain {
     )* };
 }
 
-plain!(Table Sequence Picture SequenceOut PictureOut SliceHeader Prefix ReadOut);
+plain!(Table Sequence Picture SequenceOut PictureOut SliceHeader Prefix ReadOut WalkOut);
 
 pub fn sequence_at(table: &Table, id: u32) -> SequenceOut {
     let mut out = SequenceOut::default();
@@ -79,38 +88,8 @@ pub fn read_unit(table: &Table, unit: &[u8], scratch: &mut [u8], out: &mut ReadO
     unsafe { tuz_read_unit(out, table, u, unit.len(), s, scratch.len()) }
 }
 
-/// A step of the walk: `step` is 0 at the end, 1 for a unit, 2 where the recording is over the limit.
-#[derive(Clone, Copy, Debug, PartialEq, Eq)]
-pub struct WalkOut {
-    pub step: u32,
-    pub place: usize,
-    pub length: usize,
-    pub next: usize,
-    pub read: ReadOut,
-}
-
-plain!(WalkOut);
-
 pub fn walk(table: &Table, recording: &[u8], from: usize, scratch: &mut [u8], out: &mut WalkOut) {
-    use crate::stream::mark;
-    *out = WalkOut::default();
-    if recording.len() > crate::LIMIT {
-        (out.step, out.read.answer, out.read.number) = (2, 3, 27);
-        return;
-    }
-    let start = match recording.get(from..).and_then(|rest| mark(rest, 1)) {
-        Some(start) => start,
-        None => return,
-    };
-    let place = from + start + 3;
-    let rest = &recording[place..];
-    let (length, next) = match mark(rest, 0) {
-        Some(end) => (end, place + end),
-        None => {
-            let kept = rest.iter().rposition(|b| *b != 0);
-            (kept.map_or(0, |i| i + 1), recording.len())
-        }
-    };
-    (out.step, out.place, out.length, out.next) = (1, place, length, next);
-    read_unit(table, &rest[..length], scratch, &mut out.read);
+    let (r, s) = (recording.as_ptr(), scratch.as_mut_ptr());
+    // SAFETY: each pointer and length is that of a live slice, and the call requires nothing.
+    unsafe { tuz_walk(out, table, r, recording.len(), from, s, scratch.len()) }
 }
