@@ -1,9 +1,32 @@
 -- The table's answers as plain structs.
 use mathlib.Core.Bool.{true, false}
 use lib.IntN.{pos}
+use Rattle.table.specs.declared.sets.Sequence.{Sequence}
 use Rattle.table.specs.declared.sets.Picture.{Picture}
+use Rattle.table.specs.declared.words.FoundSequence.{FoundSequence}
 use Rattle.table.specs.declared.words.FoundPicture.{FoundPicture}
+use Rattle.table.specs.declared.words.Changed.{Changed}
+use Rattle.exports.specs.declared.sets.SequenceOut.{SequenceOut}
 use Rattle.exports.specs.declared.sets.PictureOut.{PictureOut}
+use Rattle.exports.specs.declared.sets.ChangedOut.{ChangedOut}
+
+abbrev pub noSequence : Sequence
+noSequence =
+    record {
+      «chroma_format_idc» = 0;
+      «separate_colour_plane_flag» = false;
+      «bit_depth_luma_minus8» = 0;
+      «log2_max_frame_num» = 0;
+      «pic_order_cnt_type» = 0;
+      «log2_max_pic_order_cnt_lsb_minus4» = 0;
+      «delta_pic_order_always_zero_flag» = false;
+      «frame_mbs_only_flag» = false;
+      «pic_size_in_map_units» = 0;
+    }
+
+unfoldable pub sequenceOut : FoundSequence → SequenceOut
+sequenceOut (FoundSequence.There s) = record { there = true; sequence = s }
+sequenceOut FoundSequence.Absent = record { there = false; sequence = noSequence }
 
 abbrev pub noPicture : Picture
 noPicture =
@@ -25,3 +48,8 @@ noPicture =
 unfoldable pub pictureOut : FoundPicture → PictureOut
 pictureOut (FoundPicture.There p) = record { there = true; picture = p }
 pictureOut FoundPicture.Absent = record { there = false; picture = noPicture }
+
+-- the refusal's number and value; 0 where the change was done
+unfoldable pub changedOut : Changed → ChangedOut
+changedOut (Changed.Refused r) = record { number = r .number; value = r .value }
+changedOut Changed.Done = record { number = 0; value = pos 0 }

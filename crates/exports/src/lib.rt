@@ -1,3 +1,5 @@
 // What other languages call, over the static library: `rt staticlib exports`. Numbers, slices and `#[repr(C)]` structs alone cross this boundary.
-pub mod codes; // a run of codes
+pub mod ue_run; // a run of codes
 pub mod sets; // the parameter table
+pub mod units; // whole units
+pub mod walks; // the walk over a recording

@@ -65,8 +65,8 @@ fn write_known(x: Context, h: SliceHeader, out: &mut [u8]) -> HeaderWrote
 
 // A header written by the sets in a table's two arrays, for the unit that the first byte and the extension tell of. A refusal leaves the buffer as it was.
 pub fn write_header_in<'a>(
-    sequences: &'a [u32; 320],
-    pictures: &'a [u32; 3328],
+    sequences: &'a [u32; 224],
+    pictures: &'a [u32; 2048],
     first: u8,
     extension: ExtensionGiven,
     header: SliceHeader,

@@ -8,12 +8,12 @@ use Prim.Native.Nat.{_-_, _≤_}
 use Rattle.bits.specs.Bits.{bitsOf}
 use Rattle.exports.specs.Runs.{ueRun}
 use Rattle.exports.proofs.Runs.{step, stop, last}
-use Rattle.exports.proofs.codes.tuz_ue_run.Statement.{statement}
-use Rattle.exports.proofs.codes.tuz_ue_run.Tie as tie
-use Rattle.exports.proofs.codes.tuz_ue_run.Reads as reads
-use Rattle.exports.proofs.codes.tuz_ue_run.Lts as lts
+use Rattle.exports.proofs.ue_run.tuz_ue_run.Statement.{statement}
+use Rattle.exports.proofs.ue_run.tuz_ue_run.Tie as tie
+use Rattle.exports.proofs.ue_run.tuz_ue_run.Reads as reads
+use Rattle.exports.proofs.ue_run.tuz_ue_run.Lts as lts
 use Rattle.bits.proofs.read.Cursor.ue.Reads as ue-reads
-use Rattle.exports.proofs.codes.pack.Reads as pack-reads
+use Rattle.exports.proofs.ue_run.pack.Reads as pack-reads
 use Rattle.std.proofs.num.wrapping_add_u32.Reads as wrapping-add-u32-reads
 
 abbrev Inv-loop : tie.InvT-loop

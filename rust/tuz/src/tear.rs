@@ -1,0 +1,162 @@
+//! `tuz tear`: damages a clip at a place, and says what reading the torn one must then give.
+
+use crate::input::Clip;
+use anyhow::{ensure, Context, Result};
+use clap::{Args, ValueEnum};
+use std::fs;
+use std::io::Write;
+use std::path::PathBuf;
+use tuzmarghil::{reports, Report, Table};
+
+#[derive(Args)]
+pub struct Tear {
+    #[command(flatten)]
+    clip: Clip,
+    /// Where the torn clip goes
+    #[arg(short, long, value_name = "FILE")]
+    out: PathBuf,
+    /// What happens to it
+    #[arg(long, value_enum, default_value = "overwrite")]
+    how: How,
+    /// Where the damage begins; without it, at random
+    #[arg(long, value_name = "PLACE")]
+    at: Option<usize>,
+    /// How many bytes are overwritten, removed or inserted
+    #[arg(long, value_name = "BYTES", default_value_t = 512)]
+    length: usize,
+    /// What is written in place of them, or inserted
+    #[arg(long, value_enum, default_value = "random")]
+    with: With,
+    /// How many times, each at a place of its own
+    #[arg(long, value_name = "N", default_value_t = 1)]
+    times: usize,
+    /// Random places and bytes: the same seed gives the same clip
+    #[arg(long, default_value_t = 1)]
+    seed: u64,
+}
+
+#[derive(Clone, Copy, ValueEnum)]
+enum How {
+    /// The clip ends at the place
+    Cut,
+    Overwrite,
+    Remove,
+    Insert,
+}
+
+#[derive(Clone, Copy, ValueEnum)]
+enum With {
+    Zeros,
+    Ones,
+    Random,
+    /// Bytes from elsewhere in the clip
+    Copy,
+}
+
+/// splitmix64
+struct Random(u64);
+
+impl Random {
+    fn next(&mut self) -> u64 {
+        self.0 = self.0.wrapping_add(0x9E37_79B9_7F4A_7C15);
+        let mut z = self.0;
+        z = (z ^ z >> 30).wrapping_mul(0xBF58_476D_1CE4_E5B9);
+        z = (z ^ z >> 27).wrapping_mul(0x94D0_49BB_1331_11EB);
+        z ^ z >> 31
+    }
+
+    fn below(&mut self, n: usize) -> usize {
+        (self.next() % n.max(1) as u64) as usize
+    }
+}
+
+pub fn run(tear: &Tear, to: &mut impl Write) -> Result<()> {
+    let table = tear.clip.table()?;
+    let mut clip = tear.clip.bytes()?;
+    let mut random = Random(tear.seed);
+    ensure!(
+        tear.at.is_none() || tear.times == 1,
+        "--at is one place: leave it out for more --times"
+    );
+    for _ in 0..tear.times {
+        let at = tear.at.unwrap_or_else(|| random.below(clip.len()));
+        let length = clip.len();
+        ensure!(at <= length, "--at {at} is past the clip's {length} bytes");
+        let damage = Damage::of(tear, &clip, at, &mut random);
+        let torn = damage.apply(&clip);
+        damage.expect(&table, &clip, &torn, to)?;
+        clip = torn;
+    }
+    fs::write(&tear.out, &clip).with_context(|| tear.out.display().to_string())?;
+    writeln!(to, "written {} length={}", tear.out.display(), clip.len())?;
+    Ok(())
+}
+
+/// `gone` bytes at a place are replaced by others.
+struct Damage {
+    at: usize,
+    gone: usize,
+    new: Vec<u8>,
+}
+
+impl Damage {
+    fn of(tear: &Tear, clip: &[u8], at: usize, random: &mut Random) -> Damage {
+        let rest = clip.len() - at;
+        let (gone, new) = match tear.how {
+            How::Cut => (rest, 0),
+            How::Overwrite => (tear.length.min(rest), tear.length.min(rest)),
+            How::Remove => (tear.length.min(rest), 0),
+            How::Insert => (0, tear.length),
+        };
+        let from = random.below(clip.len());
+        let byte = |i: usize| match tear.with {
+            With::Zeros => 0,
+            With::Ones => 255,
+            With::Random => random.next() as u8,
+            With::Copy => clip[(from + i) % clip.len()],
+        };
+        Damage {
+            at,
+            gone,
+            new: (0..new).map(byte).collect(),
+        }
+    }
+
+    fn apply(&self, clip: &[u8]) -> Vec<u8> {
+        [&clip[..self.at], &self.new, &clip[self.at + self.gone..]].concat()
+    }
+
+    /// Says what both clips must have in common: the units whose end mark lies before the damage, and those whose start code lies behind it. Then looks whether they do.
+    fn expect(&self, table: &Table, clip: &[u8], torn: &[u8], to: &mut impl Write) -> Result<()> {
+        let (at, gone, new) = (self.at, self.gone, self.new.len());
+        let was: Vec<Report> = reports(table, clip)?.collect();
+        let is: Vec<Report> = reports(table, torn)?.collect();
+        let before = |r: &&Report| r.place + r.length + 3 <= at;
+        let behind = |r: &&Report, end: usize| end + 3 <= r.place;
+        let first = was.iter().filter(before).count();
+        let last = was.iter().filter(|r| behind(r, at + gone)).count();
+        writeln!(to, "torn place={at} bytes_gone={gone} bytes_new={new}")?;
+        writeln!(to, "expect first={first} as before")?;
+        let moved = new as i64 - gone as i64;
+        writeln!(
+            to,
+            "expect last={last} as before, places moved by {moved:+}"
+        )?;
+        let (lost, found) = (was.len() - first - last, is.len());
+        let same_first = was.iter().filter(before).eq(is.iter().filter(before));
+        let ends = |r: &&Report, s: &[u8]| (s.len() - r.place, r.length, r.unit.clone());
+        let same_last = (was.iter().filter(|r| behind(r, at + gone)))
+            .map(|r| ends(&r, clip))
+            .eq((is.iter().filter(|r| behind(r, at + new))).map(|r| ends(&r, torn)));
+        ensure!(
+            same_first && same_last && first + last <= found,
+            "the torn clip does not read as promised: this is a fault of the library"
+        );
+        writeln!(
+            to,
+            "read between={} in place of {lost}",
+            found - first - last
+        )?;
+        Ok(())
+    }
+}

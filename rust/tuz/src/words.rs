@@ -1,0 +1,102 @@
+//! Words that fill a table: `sps:..` and `pps:..`, as case lines and table files have them.
+
+use anyhow::{bail, ensure, Context, Result};
+use std::str::FromStr;
+use tuzmarghil::{Picture, Refusal, Sequence, Table};
+
+/// The fields of a word, taken one after the other.
+struct Fields<'a>(std::str::Split<'a, char>);
+
+impl Fields<'_> {
+    fn next<T: FromStr>(&mut self, name: &str) -> Result<T> {
+        let text = self
+            .0
+            .next()
+            .with_context(|| format!("{name} is missing"))?;
+        match text.parse() {
+            Ok(n) => Ok(n),
+            Err(_) => bail!("{name}={text} is not a number that fits"),
+        }
+    }
+
+    fn flag(&mut self, name: &str) -> Result<bool> {
+        match self.next(name)? {
+            0u32 => Ok(false),
+            1 => Ok(true),
+            n => bail!("{name}={n} is not a flag"),
+        }
+    }
+}
+
+/// Puts a word's set into the table. The inner answer is the table's.
+pub fn put(table: &mut Table, word: &str) -> Result<Result<(), Refusal>> {
+    let mut f = Fields(word.split(':'));
+    match f.0.next() {
+        Some("sps") => {
+            let id = f.next("seq_parameter_set_id")?;
+            let set = Sequence {
+                chroma_format_idc: f.next("chroma_format_idc")?,
+                separate_colour_plane_flag: f.flag("separate_colour_plane_flag")?,
+                bit_depth_luma_minus8: f.next("bit_depth_luma_minus8")?,
+                log2_max_frame_num: f.next("log2_max_frame_num")?,
+                pic_order_cnt_type: f.next("pic_order_cnt_type")?,
+                log2_max_pic_order_cnt_lsb_minus4: f.next("log2_max_pic_order_cnt_lsb_minus4")?,
+                delta_pic_order_always_zero_flag: f.flag("delta_pic_order_always_zero_flag")?,
+                frame_mbs_only_flag: f.flag("frame_mbs_only_flag")?,
+                pic_size_in_map_units: f.next("pic_size_in_map_units")?,
+            };
+            ensure!(f.0.next().is_none(), "more fields than a sequence set has");
+            Ok(table.put_sequence(id, set))
+        }
+        Some("pps") => {
+            let id = f.next("pic_parameter_set_id")?;
+            let set = Picture {
+                seq_parameter_set_id: f.next("seq_parameter_set_id")?,
+                entropy_coding_mode_flag: f.flag("entropy_coding_mode_flag")?,
+                bottom_field_pic_order_in_frame_present_flag: f
+                    .flag("bottom_field_pic_order_in_frame_present_flag")?,
+                num_ref_idx_l0_default_active_minus1: f
+                    .next("num_ref_idx_l0_default_active_minus1")?,
+                num_ref_idx_l1_default_active_minus1: f
+                    .next("num_ref_idx_l1_default_active_minus1")?,
+                weighted_pred_flag: f.flag("weighted_pred_flag")?,
+                weighted_bipred_idc: f.next("weighted_bipred_idc")?,
+                pic_init_qp_minus26: f.next("pic_init_qp_minus26")?,
+                pic_init_qs_minus26: f.next("pic_init_qs_minus26")?,
+                deblocking_filter_control_present_flag: f
+                    .flag("deblocking_filter_control_present_flag")?,
+                redundant_pic_cnt_present_flag: f.flag("redundant_pic_cnt_present_flag")?,
+                slice_group_change_rate: f.next("slice_group_change_rate")?,
+            };
+            ensure!(f.0.next().is_none(), "more fields than a picture set has");
+            Ok(table.put_picture(id, set))
+        }
+        _ => bail!("a word of the table begins with sps: or pps:"),
+    }
+}
+
+/// A table filled by words; refused sets leave it as it was.
+pub fn table<'a>(words: impl Iterator<Item = &'a str>) -> Result<Table> {
+    let mut table = Table::new();
+    for word in words {
+        let _refused = put(&mut table, word).with_context(|| word.to_owned())?;
+    }
+    Ok(table)
+}
+
+/// A unit in hex; `-` is no byte.
+pub fn unit(word: &str, to: &mut Vec<u8>) -> Result<()> {
+    to.clear();
+    if word == "-" {
+        return Ok(());
+    }
+    let digit = |c: u8| {
+        let d = (c as char).to_digit(16);
+        d.with_context(|| format!("{:?} is not a hex digit", c as char))
+    };
+    ensure!(word.len() % 2 == 0, "an odd number of hex digits");
+    for pair in word.as_bytes().chunks_exact(2) {
+        to.push((digit(pair[0])? * 16 + digit(pair[1])?) as u8);
+    }
+    Ok(())
+}

@@ -1,0 +1,85 @@
+//! Links the proved archive, and writes the records that cross the boundary from the sources that declare them.
+use std::path::{Path, PathBuf};
+use std::process::Command;
+use std::{env, fs};
+
+/// The crate that exports, and the files whose `#[repr(C)]` structs cross the boundary.
+const EXPORTS: &str = "exports";
+const RECORDS: [&str; 7] = [
+    "table/src/sets.rt",
+    "table/src/table.rt",
+    "syntax/src/marks.rt",
+    "syntax/src/record.rt",
+    "exports/src/sets.rt",
+    "exports/src/units.rt",
+    "exports/src/walks.rt",
+];
+
+fn main() {
+    let here = PathBuf::from(env::var_os("CARGO_MANIFEST_DIR").unwrap());
+    let out = PathBuf::from(env::var_os("OUT_DIR").unwrap());
+    let root = here.join("../..");
+    let text: String = RECORDS
+        .iter()
+        .map(|file| records(&root.join("crates").join(file)))
+        .collect();
+    fs::write(out.join("records.rs"), text).unwrap();
+
+    let name = format!("lib{EXPORTS}.a");
+    fs::copy(archive(&root, &name), out.join(&name)).unwrap();
+    println!("cargo:rustc-link-search=native={}", out.display());
+    println!("cargo:rustc-link-lib=static={EXPORTS}");
+}
+
+/// The archive: the one that `TUZ_ARCHIVE` names, else one that is proved and built here.
+fn archive(root: &Path, name: &str) -> PathBuf {
+    println!("cargo:rerun-if-env-changed=TUZ_ARCHIVE");
+    if let Some(given) = env::var_os("TUZ_ARCHIVE") {
+        return PathBuf::from(given);
+    }
+    for path in ["crates", "crates.txt", "bench/native-archive"] {
+        println!("cargo:rerun-if-changed={}", root.join(path).display());
+    }
+    let done = Command::new(root.join("bench/native-archive"))
+        .arg(EXPORTS)
+        .output()
+        .expect("bench/native-archive runs");
+    assert!(
+        done.status.success(),
+        "bench/native-archive {EXPORTS} failed (it needs the Rattle kit's `rt` on the PATH):\n{}{}",
+        String::from_utf8_lossy(&done.stdout),
+        String::from_utf8_lossy(&done.stderr)
+    );
+    root.join("target/staticlib").join(name)
+}
+
+/// The `#[repr(C)]` structs of a Rattle file, as Rust: they are Rust's own text but for `derive`, and comments become documentation.
+fn records(file: &Path) -> String {
+    let source = fs::read_to_string(file).unwrap_or_else(|e| panic!("{}: {e}", file.display()));
+    let mut text = String::new();
+    let mut comment = String::new();
+    let mut inside = false;
+    for line in source.lines() {
+        let bare = line.trim_start();
+        if let Some(words) = bare.strip_prefix("// ") {
+            let indent = &line[..line.len() - bare.len()];
+            let told = format!("{indent}/// {words}\n");
+            if inside {
+                text += &told;
+            } else {
+                comment += &told;
+            }
+        } else if line == "#[repr(C)]" {
+            text += &std::mem::take(&mut comment);
+            text += "#[derive(Clone, Copy, Debug, PartialEq, Eq)]\n#[repr(C)]\n";
+            inside = true;
+        } else if inside {
+            text += line;
+            text += "\n";
+            inside = line != "}";
+        } else {
+            comment.clear();
+        }
+    }
+    text
+}

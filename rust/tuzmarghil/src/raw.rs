@@ -1,0 +1,95 @@
+//! The records as the proved library has them, and its functions.
+//!
+//! The structs are taken from the Rattle sources by build.rs: nothing is declared twice. What is absent is zero, with its mark `there` clear.
+#![allow(missing_docs)]
+
+include!(concat!(env!("OUT_DIR"), "/records.rs"));
+
+// A struct result of over 16 bytes goes through a pointer that stands first: on x86-64 by the C convention, elsewhere because bench/native-archive compiles the
+// module made for x86-64. So it is written out here, and the same text serves both. A slice is a pointer and a length.
+extern "C" {
+    fn tuz_sequence_at(out: *mut SequenceOut, table: *const Table, id: u32);
+    fn tuz_picture_at(out: *mut PictureOut, table: *const Table, id: u32);
+    fn tuz_put_sequence(table: *mut Table, id: u32, set: Sequence) -> ChangedOut;
+    fn tuz_put_picture(table: *mut Table, id: u32, set: Picture) -> ChangedOut;
+    fn tuz_read_unit(
+        out: *mut ReadOut,
+        table: *const Table,
+        unit: *const u8,
+        unit_len: usize,
+        scratch: *mut u8,
+        scratch_len: usize,
+    );
+    fn tuz_walk(
+        out: *mut WalkOut,
+        table: *const Table,
+        recording: *const u8,
+        recording_len: usize,
+        from: usize,
+        scratch: *mut u8,
+        scratch_len: usize,
+    );
+}
+
+/// A record of numbers and flags alone, which zero bytes are a value of.
+///
+/// # Safety
+///
+/// The type is made of integers and bools only.
+pub(crate) unsafe trait Plain: Sized {
+    fn zero() -> Self {
+        // SAFETY: zero bytes are a value of every integer and of bool.
+        unsafe { std::mem::MaybeUninit::zeroed().assume_init() }
+    }
+}
+
+macro_rules! plain {
+    ($($name:ident)*) => { $(
+        // SAFETY: the struct is declared above, of integers, bools and such structs and arrays.
+        unsafe impl Plain for $name {}
+        impl Default for $name {
+            /// Zeros.
+            fn default() -> $name {
+                Plain::zero()
+            }
+        }
+    )* };
+}
+
+plain!(Table Sequence Picture SequenceOut PictureOut SliceHeader Prefix ReadOut WalkOut);
+
+pub fn sequence_at(table: &Table, id: u32) -> SequenceOut {
+    let mut out = SequenceOut::default();
+    // SAFETY: both live through the call, which only reads the table and requires nothing.
+    unsafe { tuz_sequence_at(&mut out, table, id) };
+    out
+}
+
+pub fn picture_at(table: &Table, id: u32) -> PictureOut {
+    let mut out = PictureOut::default();
+    // SAFETY: both live through the call, which only reads the table and requires nothing.
+    unsafe { tuz_picture_at(&mut out, table, id) };
+    out
+}
+
+pub fn put_sequence(table: &mut Table, id: u32, set: Sequence) -> ChangedOut {
+    // SAFETY: the table is borrowed for this call alone, which requires nothing.
+    unsafe { tuz_put_sequence(table, id, set) }
+}
+
+pub fn put_picture(table: &mut Table, id: u32, set: Picture) -> ChangedOut {
+    // SAFETY: the table is borrowed for this call alone, which requires nothing.
+    unsafe { tuz_put_picture(table, id, set) }
+}
+
+pub fn read_unit(table: &Table, unit: &[u8], scratch: &mut [u8], out: &mut ReadOut) {
+    let (u, s) = (unit.as_ptr(), scratch.as_mut_ptr());
+    // SAFETY: each pointer and length is that of a live slice, and the call requires nothing.
+    unsafe { tuz_read_unit(out, table, u, unit.len(), s, scratch.len()) }
+}
+
+pub fn walk(table: &Table, recording: &[u8], from: usize, scratch: &mut [u8], out: &mut WalkOut) {
+    let (r, s) = (recording.as_ptr(), scratch.as_mut_ptr());
+    // SAFETY: each pointer and length is that of a live slice, and the call requires nothing.
+    unsafe { tuz_walk(out, table, r, recording.len(), from, s, scratch.len()) }
+}

@@ -1,0 +1,81 @@
+//! The units of a recording.
+
+use crate::raw::{self, WalkOut};
+use crate::{Refusal, Table, Unit, LIMIT};
+
+/// A unit of a recording.
+#[derive(Clone, Debug, PartialEq, Eq)]
+pub struct Report {
+    /// Where the unit begins, after its start code.
+    pub place: usize,
+    /// How many bytes it has.
+    pub length: usize,
+    /// What it holds, or why it is refused.
+    pub unit: Result<Unit, Refusal>,
+}
+
+/// The units of a recording that lies in memory, in order: one for each start code. A recording of over [`LIMIT`] bytes is refusal 27; [`crate::Stream`] takes any.
+///
+/// ```
+/// use tuzmarghil::{reports, Table, Unit, UnitType};
+///
+/// let recording = [0, 0, 0, 1, 0xE5, 0x88, 0, 0, 1, 0x09, 0xF0];
+/// let table = Table::new();
+/// let found: Vec<_> = reports(&table, &recording)?.collect();
+/// assert_eq!((found[0].place, found[0].length), (4, 2));
+/// assert_eq!(found[0].unit.as_ref().unwrap_err().number, 2);
+/// assert_eq!((found[1].place, found[1].length), (9, 2));
+/// assert_eq!(found[1].unit, Ok(Unit::Other(UnitType::AccessUnitDelimiter)));
+/// # Ok::<(), tuzmarghil::Refusal>(())
+/// ```
+pub fn reports<'a>(table: &'a Table, recording: &'a [u8]) -> Result<Reports<'a>, Refusal> {
+    if recording.len() > LIMIT {
+        return Err(Refusal {
+            number: 27,
+            value: 0,
+        });
+    }
+    Ok(Reports {
+        table,
+        recording,
+        from: 0,
+        scratch: vec![0; recording.len()],
+        out: Box::default(),
+    })
+}
+
+/// The iterator of [`reports`].
+pub struct Reports<'a> {
+    table: &'a Table,
+    recording: &'a [u8],
+    from: usize,
+    scratch: Vec<u8>,
+    out: Box<WalkOut>,
+}
+
+impl Iterator for Reports<'_> {
+    type Item = Report;
+
+    fn next(&mut self) -> Option<Report> {
+        let out = &mut *self.out;
+        raw::walk(
+            self.table.as_raw(),
+            self.recording,
+            self.from,
+            &mut self.scratch,
+            out,
+        );
+        if out.step != 1 {
+            return None;
+        }
+        self.from = out.next;
+        let bytes = &self.recording[out.place..][..out.length];
+        Some(Report {
+            place: out.place,
+            length: out.length,
+            unit: Unit::from_raw(bytes, &out.read),
+        })
+    }
+}
+
+impl std::iter::FusedIterator for Reports<'_> {}
