@@ -2,7 +2,7 @@
 use mathlib.Core.Path.{_≡_, refl, sym, ap, _∙_}
 use mathlib.Core.List.{List, [], _∷_, _++_, map, append-assoc}
 use mathlib.Core.Bool.{Bool, true, false}
-use Prim.Native.Nat.{ℕ, zero, suc, _+_, _-_, _≤_, _<_}
+use Prim.Native.Nat.{ℕ, zero, suc, _+_, _-_, _≤_}
 use native.Mathlib.Omega.{arith}
 use lib.Dec.{leb, eqb}
 use lib.ListN.{length, take, drop, length-append, length-take, length-drop, length-map, drop-of-length-le}
@@ -17,7 +17,7 @@ use Rattle.walk.specs.Walk.{hit, nextUnit}
 use Rattle.walk.specs.Units.{Report, Span, spanOf, unitsAt, units, reportOf}
 use Rattle.walk.specs.Walked.{nothing, walked}
 use Rattle.walk.specs.Reports.{andOn, reportsBy, reports, sift, startsFrom, endsBefore, toEnd}
-use Rattle.walk.proofs.Chain.{Went, went, ended}
+use Rattle.walk.proofs.Chain.{went, ended}
 use Rattle.walk.proofs.Once.{standAt, one-unit}
 use Rattle.walk.proofs.Resync.{resync, kept-before}
 use Rattle.walk.proofs.Steps.{at-end, at-unit}
