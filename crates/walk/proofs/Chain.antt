@@ -12,7 +12,7 @@ use lib.Seq.{drop-drop, drop-length}
 use Rattle.bits.specs.Refusals.{pick}
 use Rattle.walk.specs.declared.search.Found.{Found}
 use Rattle.walk.specs.Walk.{hit, upto, kept, lenOf, firstFrom, unitAt, nextUnit}
-use Rattle.walk.specs.Units.{Report, Span, spanOf, unitsAt}
+use Rattle.walk.specs.Units.{Span, spanOf, unitsAt}
 use Rattle.walk.proofs.Hits.{hit-first, hit-second, upto-le, upto-at, code-room}
 use Rattle.walk.proofs.Trims.{kept-le}
 

@@ -2,10 +2,10 @@
 use mathlib.Core.Path.{_≡_, refl, sym, ap, _∙_}
 use mathlib.Core.List.{List, [], _∷_, _++_, map, append-assoc}
 use mathlib.Core.Bool.{Bool, true, false}
-use Prim.Native.Nat.{ℕ, zero, suc, _+_, _-_, _≤_, _<_}
+use Prim.Native.Nat.{ℕ, zero, suc, _+_, _-_, _≤_}
 use native.Mathlib.Omega.{arith}
-use lib.Dec.{leb}
-use lib.ListN.{length, take, drop, length-append, length-take, length-drop, drop-of-length-le}
+use lib.Dec.{leb, eqb}
+use lib.ListN.{length, take, drop, length-append, length-take, length-drop, length-map, drop-of-length-le}
 use Rattle.bits.specs.Refusals.{pick, limit}
 use Rattle.table.specs.declared.table.Table.{Table}
 use Rattle.unit.specs.declared.answer.UnitRead.{UnitRead}
@@ -17,7 +17,8 @@ use Rattle.walk.specs.Walk.{hit, nextUnit}
 use Rattle.walk.specs.Units.{Report, Span, spanOf, unitsAt, units, reportOf}
 use Rattle.walk.specs.Walked.{nothing, walked}
 use Rattle.walk.specs.Reports.{andOn, reportsBy, reports, sift, startsFrom, endsBefore, toEnd}
-use Rattle.walk.proofs.Chain.{Went, went, ended}
+use Rattle.walk.proofs.Chain.{went, ended}
+use Rattle.walk.proofs.Once.{standAt, one-unit}
 use Rattle.walk.proofs.Resync.{resync, kept-before}
 use Rattle.walk.proofs.Steps.{at-end, at-unit}
 
@@ -68,6 +69,13 @@ module _ {A : Type 0} (F : List ℕ → A) where
   to-end : (k : ℕ) (us : List Span) → map (toEnd k) (map (reportOf F) us) ≡ map (reportOf F) (map (toEnd k) us)
   to-end k [] = refl
   to-end k (u ∷ us) = rw (to-end k us)
+
+-- counted: one report of a unit after each start code, and none after any other place
+pub demand-3-once : (t : Table) (scratch s : List ℕ) → length s ≤ limit → (i : ℕ) → length (sift (λ (r : Report UnitRead). eqb (r .place) (i + 3)) (reports t scratch s)) ≡ pick (hit 1 (drop i s)) 1 0
+demand-3-once t scratch s h i =
+    let F = answer t scratch in
+    ap (λ (rs : List (Report UnitRead)). length (sift (λ (r : Report UnitRead). eqb (r .place) (i + 3)) rs)) (demand-3-complete t scratch s h)
+    ∙ ap length (sift-map F (λ place next. eqb place (i + 3)) (units s)) ∙ length-map (standAt (i + 3) (units s)) (reportOf F) ∙ one-unit i s
 
 -- no unit has more bytes than the recording
 abbrev Short : ℕ → List Span → Type 0

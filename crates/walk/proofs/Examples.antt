@@ -1,7 +1,6 @@
 -- The edges of the search, by computing.
 use mathlib.Core.Path.{_≡_, refl}
-use mathlib.Core.List.{List, [], _∷_}
-use Prim.Native.Nat.{ℕ}
+use mathlib.Core.List.{[], _∷_}
 use Rattle.walk.specs.declared.search.Found.{Found}
 use Rattle.walk.specs.Walk.{lenOf, unitAt, firstFrom, nextUnit}
 

@@ -3,6 +3,7 @@ pub mod Trims
 pub mod Nexts
 pub mod Chain
 pub mod Steps
+pub mod Once
 pub mod Resync
 pub mod Border
 pub mod State

@@ -1,5 +1,5 @@
 -- The cases of the next unit, by what the searches found. `at` is where its start code begins, `next` where its end mark does.
-use mathlib.Core.Path.{_≡_, refl}
+use mathlib.Core.Path.{_≡_}
 use mathlib.Core.List.{List}
 use Prim.Native.Nat.{ℕ, _+_, _-_, _≤_, _<_}
 use native.Mathlib.Omega.{arith}

@@ -25,7 +25,7 @@ abbrev pub reportsBy : ℕ → Table → List ℕ → ℕ → List ℕ → List 
 reportsBy zero t s from scratch = []
 reportsBy (suc f) t s from scratch = andOn (walked t s from scratch) (reportsBy f t s)
 
--- all reports of the recording s: it has fewer units than bytes
+-- all reports of the recording s: it has no more units than bytes
 abbrev pub reports : Table → List ℕ → List ℕ → List (Report UnitRead)
 reports t scratch s = reportsBy (length s) t s 0 scratch
 

@@ -1,6 +1,6 @@
 use borrow.Author.Needs.{needs}
 use native.Mathlib.Omega.{arith}
-use mathlib.Core.Path.{_≡_, refl}
+use mathlib.Core.Path.{refl}
 use Rattle.walk.proofs.Hits.{code-room}
 use Rattle.walk.proofs.Nexts.{none-from, marked, open-ended}
 use Rattle.walk.proofs.search.next_unit.Statement.{statement}

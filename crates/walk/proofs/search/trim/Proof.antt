@@ -1,8 +1,8 @@
 use borrow.Author.Needs.{needs}
 use native.Mathlib.Omega.{arith}
-use mathlib.Core.Path.{_≡_, refl, sym, ap, _∙_}
-use Prim.Native.Nat.{ℕ, _+_, _-_, _≤_}
-use lib.ListN.{length, drop, take, length-drop}
+use mathlib.Core.Path.{_≡_, sym, _∙_}
+use Prim.Native.Nat.{_-_, _≤_}
+use lib.ListN.{length, drop, take}
 use Rattle.walk.specs.Walk.{kept}
 use Rattle.walk.proofs.Trims.{trim-on, trim-stop, trim-start}
 use Rattle.walk.proofs.search.trim.Statement.{statement}

@@ -1,4 +1,4 @@
-use mathlib.Core.Path.{_≡_, refl, sym, ap, _∙_}
+use mathlib.Core.Path.{refl, sym, _∙_}
 use native.Mathlib.Omega.{arith}
 use Rattle.walk.proofs.Chain.{Went, went}
 use Rattle.walk.proofs.Steps.{too-large, at-end, was-read}
