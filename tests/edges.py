@@ -5,6 +5,7 @@ edges.py           compares with crates/edges/stdout, and exits non-zero where t
 edges.py --write   writes that file
 The cases are those of crates/edges/src, in its order.
 """
+from document01 import MVC, SVC
 from model import hold
 
 LAST = 2**64 - 1
@@ -214,22 +215,8 @@ def units():
 
 def extension(three):
     s = bits(three)
-    tables = {
-        "0": [("non_idr_flag", 1), ("priority_id", 6), ("view_id", 10), ("temporal_id", 3), ("anchor_pic_flag", 1), ("inter_view_flag", 1)],
-        "1": [
-            ("idr_flag", 1),
-            ("priority_id", 6),
-            ("no_inter_layer_pred_flag", 1),
-            ("dependency_id", 3),
-            ("quality_id", 4),
-            ("temporal_id", 3),
-            ("use_ref_base_pic_flag", 1),
-            ("discardable_flag", 1),
-            ("output_flag", 1),
-        ],
-    }
     at, words = 1, [{"0": "mvc", "1": "svc"}[s[0]]]
-    for name, n in tables[s[0]]:
+    for name, n in {"0": MVC, "1": SVC}[s[0]]:
         words.append(f"{name}={int(s[at:at + n], 2)}")
         at += n
     lines.append(f"extension {three.hex(' ').upper()}: {' '.join(words)}")

@@ -7,35 +7,14 @@ readings.py --write   writes stdout
 import re
 import sys
 
+from codes import escaped, packed, se, ue
 from model import CRATES, hold
 
 TAIL = "1" * 9  # slice data with set bits, so that something follows the header
 
 
-def ue(v):
-    digits = f"{v + 1:b}"
-    return "0" * (len(digits) - 1) + digits
-
-
-def se(v):
-    return ue(2 * v - 1 if v > 0 else -2 * v)
-
-
-def escaped(data):
-    out, zeros = bytearray(), 0
-    for b in data:
-        if zeros >= 2 and b <= 3:
-            out.append(3)
-            zeros = 0
-        out.append(b)
-        zeros = zeros + 1 if b == 0 else 0
-    return bytes(out)
-
-
 def unit(first, header, extension=b""):
-    bits = header + TAIL
-    bits += "0" * (-len(bits) % 8)
-    return bytes([first]) + extension + escaped(bytes(int(bits[i : i + 8], 2) for i in range(0, len(bits), 8)))
+    return bytes([first]) + extension + escaped(packed(header + TAIL))
 
 
 def p_slice(picture_set=0, override="0", modification="0", qp=0, deblocking=""):
