@@ -37,6 +37,7 @@ mod slice;
 mod stream;
 mod table;
 mod unit;
+mod unparse;
 mod walk;
 
 pub use nal::{

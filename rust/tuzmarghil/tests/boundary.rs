@@ -218,6 +218,11 @@ fn fields_arrive() {
     };
     assert_eq!(slice.header, want);
     assert_eq!(slice.header.slice_qp(&picture), 13);
+
+    // and back to the record that the library gave
+    let mut out = raw::ReadOut::default();
+    read_unit_raw(&table, &unit, &mut scratch, &mut out);
+    assert_eq!(slice.header.to_raw(&table), Ok(out.header));
 }
 
 #[test]
