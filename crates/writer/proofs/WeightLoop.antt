@@ -23,7 +23,7 @@ use Rattle.fmt.proofs.Puts.{answered, stopped, shaped-put}
 use Rattle.fmt.proofs.PutLoops.{CountedAhead, counted-none, counted-all, counted-stop, counted-next}
 use Rattle.syntax.specs.declared.record.Weight.{Weight}
 use Rattle.syntax.specs.declared.record.WeightList.{WeightList}
-use Rattle.syntax.specs.SliceHeader.{weight, noWeight, isNoWeight, weightList}
+use Rattle.syntax.specs.SliceHeader.{weight, isNoWeight, weightList}
 
 module _ (chroma : Bool) (n : ℕ) (w : WeightList) (d : List ℕ) (at : ℕ) where
   abbrev used : List Weight

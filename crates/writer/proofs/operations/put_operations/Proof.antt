@@ -34,7 +34,7 @@ mul-code : tie.Need-mul-code Inv-loop μ-loop
 mul-code c = let h : c .before .loop .i < 66 = omega (arith, few-operations _ (c .before .loop .inv .1 .tidy), c .loop-test .taken) in search needs
 
 element-copy-out-code : tie.Need-element-copy-out-code Inv-loop μ-loop
-element-copy-out-code c = let h : c .before .loop .i < 66 = omega (arith, few-operations _ (c .before .loop .inv .1 .tidy), c .loop-test .taken) in search needs
+element-copy-out-code c = omega (arith, few-operations _ (c .before .loop .inv .1 .tidy), c .loop-test .taken)
 
 refuse-requires-2 : tie.Need-refuse-requires-2 Inv-loop μ-loop
 refuse-requires-2 c κs = search needs
@@ -64,13 +64,13 @@ mul-put-operands : tie.Need-mul-put-operands Inv-loop μ-loop
 mul-put-operands c = let h : c .before .before .before .before .before .before .before .before .before .before .before .before .loop .i < 66 = omega (arith, few-operations _ (c .before .before .before .before .before .before .before .before .before .before .before .before .loop .inv .1 .tidy), c .before .before .before .before .before .before .before .before .before .before .before .loop-test .taken) in search needs
 
 element-copy-out-put-operands : tie.Need-element-copy-out-put-operands Inv-loop μ-loop
-element-copy-out-put-operands c = let h : c .before .before .before .before .before .before .before .before .before .before .before .before .loop .i < 66 = omega (arith, few-operations _ (c .before .before .before .before .before .before .before .before .before .before .before .before .loop .inv .1 .tidy), c .before .before .before .before .before .before .before .before .before .before .before .loop-test .taken) in search needs
+element-copy-out-put-operands c = omega (arith, few-operations _ (c .before .before .before .before .before .before .before .before .before .before .before .before .loop .inv .1 .tidy), c .before .before .before .before .before .before .before .before .before .before .before .loop-test .taken)
 
 mul-put-operands-2 : tie.Need-mul-put-operands-2 Inv-loop μ-loop
 mul-put-operands-2 c = let h : c .before .before .before .before .before .before .before .before .before .before .before .before .before .loop .i < 66 = omega (arith, few-operations _ (c .before .before .before .before .before .before .before .before .before .before .before .before .before .loop .inv .1 .tidy), c .before .before .before .before .before .before .before .before .before .before .before .before .loop-test .taken) in search needs
 
 element-copy-out-put-operands-2 : tie.Need-element-copy-out-put-operands-2 Inv-loop μ-loop
-element-copy-out-put-operands-2 c = let h : c .before .before .before .before .before .before .before .before .before .before .before .before .before .loop .i < 66 = omega (arith, few-operations _ (c .before .before .before .before .before .before .before .before .before .before .before .before .before .loop .inv .1 .tidy), c .before .before .before .before .before .before .before .before .before .before .before .before .loop-test .taken) in search needs
+element-copy-out-put-operands-2 c = omega (arith, few-operations _ (c .before .before .before .before .before .before .before .before .before .before .before .before .before .loop .inv .1 .tidy), c .before .before .before .before .before .before .before .before .before .before .before .before .loop-test .taken)
 
 put-operands-requires : tie.Need-put-operands-requires Inv-loop μ-loop
 put-operands-requires c κs = search needs

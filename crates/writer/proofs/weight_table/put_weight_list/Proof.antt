@@ -36,7 +36,7 @@ mul-x : tie.Need-mul-x Inv-loop μ-loop
 mul-x c = let h : c .before .loop .i < 32 = omega (arith, weighing-few _ _ _ _ _ (c .before .loop .inv .1), c .loop-test .taken) in search needs
 
 element-copy-out-x : tie.Need-element-copy-out-x Inv-loop μ-loop
-element-copy-out-x c = let h : c .before .loop .i < 32 = omega (arith, weighing-few _ _ _ _ _ (c .before .loop .inv .1), c .loop-test .taken) in search needs
+element-copy-out-x c = omega (arith, weighing-few _ _ _ _ _ (c .before .loop .inv .1), c .loop-test .taken)
 
 put-weight-requires : tie.Need-put-weight-requires Inv-loop μ-loop
 put-weight-requires c κs = search needs
