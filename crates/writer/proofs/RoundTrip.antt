@@ -1,7 +1,7 @@
 -- The writer's theorems, for every table, unit, record and buffer: what is written reads back, what was read is written as it stood, and 25 is given exactly
 -- where no bits read to the record.
 use Prim.Native.Nat.{ℕ, _+_, _≤_}
-use mathlib.Core.Path.{_≡_, refl, sym, ap, _∙_}
+use mathlib.Core.Path.{_≡_, refl, sym, ap, subst, _∙_}
 use mathlib.Core.List.{List, _++_}
 use mathlib.Core.Bool.{true, false}
 use native.Mathlib.Omega.{arith}
@@ -115,6 +115,17 @@ module _ (t : Table) (b : ℕ) (x : ExtensionGiven) (h : SliceHeader) (out : Lis
   refused-unread w s e r =
       let g = syntax.rewrites t k s h e r .is-good in
       good-written t k h out g (sym (ap (λ (o : HeaderOut). o .answer) (goes-on t b x h out q f)) ∙ w)
+
+  -- and so no unit that starts as the writer was told reads as it
+  pub refused-no-unit : writeHeader t b x h out .answer ≡ refused → (u v scratch : List ℕ) (e : ℕ) → Starts b x u v
+      → unitRead t u scratch .read .answer ≡ UnitAnswer.Slice e → unitRead t u scratch .read .header ≡ h → ⊥
+  refused-no-unit w u v scratch e s a r =
+      let y = slice-read t u scratch a r in
+      let z = syntax.rewrites t (y .kind) _ h e (y .reads) in
+      let d = tells s (y .is) (not-scalable t (y .kind) h (z .is-good)) in
+      let j : KindGiven.Of (y .kind) ≡ KindGiven.Of k = sym (d .0) ∙ q in
+      let i : y .kind ≡ k = (cc j) in
+      refused-unread w _ e (subst (λ (n : UnitKind). readHeader t n (bodyBits (drop (y .from) u)) ≡ got h e) i (y .reads))
 
   -- and where none do, it is given, and the buffer is as it was
   pub unread-refused : ((s : Bits) (e : ℕ) → readHeader t k s ≡ got h e → ⊥) → writeHeader t b x h out ≡ untouched (refusal noBits (pos 0) 0) out

@@ -55,7 +55,7 @@ loop-again c =
     let i = c .before .before .loop .i in
     let d = c .before .before .before .before .before .before .args .d .now in
     let o = c .before .before .before .before .before .before .args .out .now in
-    (omega arith, length-set _ _ _ ∙ v .1, ap (λ (l : List ℕ). set l i (getD d i 0)) (v .2) ∙ copied-one d o i (omega arith) (omega arith))
+    (omega arith, length-set (c .before .before .loop .out) i (getD d i 0) ∙ v .1, ap (λ (l : List ℕ). set l i (getD d i 0)) (v .2) ∙ copied-one d o i (omega arith) (omega arith))
 
 same-length : tie.Need-same-length Inv-loop μ-loop
 same-length c = search needs
