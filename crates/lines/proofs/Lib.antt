@@ -1,0 +1,4 @@
+pub mod Texts
+pub mod Decimals
+pub mod Magnitudes
+pub mod Levels

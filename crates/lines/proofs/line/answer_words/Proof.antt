@@ -1,0 +1,80 @@
+use borrow.Author.Needs.{needs}
+use native.Mathlib.Omega.{arith}
+use mir.Facts.{toZ-ofZ}
+use mir.Syntax.{w32, w64}
+use mir.Val.{SFits}
+use Rattle.lines.proofs.Decimals.{decimal-8}
+use Rattle.lines.proofs.line.answer_words.Statement.{statement}
+use Rattle.lines.proofs.line.answer_words.Tie as tie
+
+enum-told : tie.Need-enum-told
+enum-told c = search needs
+
+qp-requires : tie.Need-qp-requires
+qp-requires c κs = search needs
+
+slice-words-requires : tie.Need-slice-words-requires
+slice-words-requires c κs = search needs
+
+enum-told-2 : tie.Need-enum-told-2
+enum-told-2 c = search needs
+
+is-svc-requires : tie.Need-is-svc-requires
+is-svc-requires c κs = search needs
+
+prefix-words-requires : tie.Need-prefix-words-requires
+prefix-words-requires c κs = search needs
+
+enum-known-answer : tie.Need-enum-known-answer
+enum-known-answer c = search needs
+
+slice-aggregate-field : tie.Need-slice-aggregate-field
+slice-aggregate-field c = search needs
+
+cast-field : tie.Need-cast-field
+cast-field c = search needs
+
+field-requires : tie.Need-field-requires
+field-requires c κs = omega (arith, decimal-8 (c .before .before .before .answer .given .0 .0) (search needs))
+
+enum-known-answer-2 : tie.Need-enum-known-answer-2
+enum-known-answer-2 c = search needs
+
+refused-words-requires : tie.Need-refused-words-requires
+refused-words-requires c κs = search needs
+
+returns : tie.Need-returns
+returns c =
+    let v : SFits w64 (c .before .before .qp .result) = record { sfits = c .before .before .qp .ok } in
+    let d : SFits w32 (c .before .before .before .before .before .before .before .before .before .before .args .read .header .quantiser .«slice_qp_delta») = search needs in
+    rw (c .before .before .before .before .before .before .before .enum-told .given .1) (rw (toZ-ofZ v, c .before .before .qp .ensures, toZ-ofZ d) at (c .slice-words .ensures))
+
+returns-2 : tie.Need-returns-2
+returns-2 c = rw (c .before .before .before .enum-told2 .given .1) (rw (c .before .is-svc .ensures) at (c .prefix-words .ensures))
+
+returns-3 : tie.Need-returns-3
+returns-3 c = rw (c .before .before .before .before .answer .given .1) (c .field .ensures, omega (arith, decimal-8 (c .before .before .before .before .answer .given .0 .0) (search needs)))
+
+returns-4 : tie.Need-returns-4
+returns-4 c = rw (c .before .before .before .answer2 .given .1) (c .refused-words .ensures)
+
+pub answer-words-spec : {M : Type 1} → statement M
+answer-words-spec =
+    tie.close
+    (tie.spec
+    enum-told
+    qp-requires
+    slice-words-requires
+    enum-told-2
+    is-svc-requires
+    prefix-words-requires
+    enum-known-answer
+    slice-aggregate-field
+    cast-field
+    field-requires
+    enum-known-answer-2
+    refused-words-requires
+    returns
+    returns-2
+    returns-3
+    returns-4)

@@ -1,0 +1,44 @@
+use borrow.Author.Needs.{needs}
+use Rattle.lines.specs.Lines.{isSvc}
+use Rattle.lines.proofs.line.is_svc.Statement.{statement}
+use Rattle.lines.proofs.line.is_svc.Tie as tie
+
+extension-of-requires : tie.Need-extension-of-requires
+extension-of-requires c κs = search needs
+
+enum-known-e : tie.Need-enum-known-e
+enum-known-e c = search needs
+
+enum-told : tie.Need-enum-told
+enum-told c = search needs
+
+enum-told-2 : tie.Need-enum-told-2
+enum-told-2 c = search needs
+
+enum-told-3 : tie.Need-enum-told-3
+enum-told-3 c = search needs
+
+returns : tie.Need-returns
+unfolding isSvc
+returns c = rw (← (c .before .before .before .before .before .extension-of .ensures), c .before .before .before .e .given .1, c .enum-told .given .1)
+
+returns-2 : tie.Need-returns-2
+unfolding isSvc
+returns-2 c = rw (← (c .before .before .before .before .before .extension-of .ensures), c .before .before .before .e .given .1, c .enum-told2 .given .1)
+
+returns-3 : tie.Need-returns-3
+unfolding isSvc
+returns-3 c = rw (← (c .before .before .extension-of .ensures), c .enum-told3 .given .1)
+
+pub is-svc-spec : {M : Type 1} → statement M
+is-svc-spec =
+    tie.close
+    (tie.spec
+    extension-of-requires
+    enum-known-e
+    enum-told
+    enum-told-2
+    enum-told-3
+    returns
+    returns-2
+    returns-3)

@@ -1,0 +1,62 @@
+use Prim.Native.Nat.{_≤_, _+_, _-_}
+use native.Mathlib.Omega.{arith}
+use native.Mathlib.Nat.{add-zero}
+use borrow.Author.Needs.{needs}
+use lib.ListN.{length, take}
+use Rattle.lines.specs.Text.{Put}
+use Rattle.lines.proofs.Texts.{nothing, turn, all-of}
+use Rattle.lines.proofs.text.words.Statement.{statement}
+use Rattle.lines.proofs.text.words.Tie as tie
+
+abbrev Inv-loop : tie.InvT-loop
+Inv-loop d₀ at w i₀ d i = (i ≤ length w) × Put d₀ at (take i w) (at + i) d
+
+abbrev μ-loop : tie.MeasureT-loop
+μ-loop d₀ at w i₀ d i = length w - i
+
+loop-holds : tie.Need-loop-holds Inv-loop μ-loop
+loop-holds c = (search needs, rw add-zero (nothing (c .args .d .now) (c .args .at)))
+
+shared-slice-read-d : tie.Need-shared-slice-read-d Inv-loop μ-loop
+shared-slice-read-d c = search needs
+
+add-d : tie.Need-add-d Inv-loop μ-loop
+add-d c = search needs
+
+element-write-d : tie.Need-element-write-d Inv-loop μ-loop
+element-write-d c = search needs
+
+add-i : tie.Need-add-i Inv-loop μ-loop
+add-i c = search needs
+
+loop-less : tie.Need-loop-less Inv-loop μ-loop
+loop-less c = search needs
+
+loop-again : tie.Need-loop-again Inv-loop μ-loop
+loop-again c =
+    let l = c .before .before in
+    (search needs, turn (l .before .args .d .now) (l .loop .d) (l .before .args .w .now) (l .before .args .at) (l .loop .i) (search needs) (l .loop .inv .1))
+
+add-result : tie.Need-add-result Inv-loop μ-loop
+add-result c = search needs
+
+returns : tie.Need-returns Inv-loop μ-loop
+returns c =
+    let l = c .before in
+    all-of (l .before .args .d .now) (l .loop .d) (l .before .args .w .now) (l .before .args .at) (l .loop .i) (omega arith) (l .loop .inv .1)
+
+pub words-spec : {M : Type 1} → statement M
+words-spec =
+    tie.close
+    (tie.spec
+    Inv-loop
+    μ-loop
+    loop-holds
+    shared-slice-read-d
+    add-d
+    element-write-d
+    add-i
+    loop-less
+    loop-again
+    add-result
+    returns)
