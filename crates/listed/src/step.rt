@@ -1,0 +1,135 @@
+// One step of a listing: the walk's next unit as a line; or the last line, with the totals.
+use lines::line::end_line;
+use lines::line::too_long_line;
+use lines::line::unit_line;
+use unit::answer::UnitAnswer;
+use unit::answer::UnitRead;
+use walk::walk::Step;
+use walk::walk::walk_in;
+ghost use mathlib.Core.Path.{_≡_};
+ghost use Rattle.header.specs.Lead.{tableOf};
+ghost use Rattle.lines.specs.Lines.{endLine, tooLongLine};
+ghost use Rattle.listed.specs.Listing.{oneMore, isRefused, start, counted, turn, Stepped, Ends};
+
+// The longest recording that is listed, in bytes.
+pub const MOST: usize = 65_536;
+
+// Where a listing has come to: the place to go on from, and how many units it has listed and how many of them were refused.
+pub struct State {
+    pub from: usize,
+    pub units: usize,
+    pub refused: usize,
+}
+
+// The state after a line, the length of the line's text, and whether another line follows.
+pub struct Listed {
+    pub state: State,
+    pub length: usize,
+    pub more: bool,
+}
+
+// The state of a listing that has not begun.
+pub fn start() -> State
+    ensures { λ r. ⌜ r ≡ start ⌝ }
+{
+    State {
+        from: 0,
+        units: 0,
+        refused: 0,
+    }
+}
+
+// One more; a count of `MOST` stays, which a listing never asks.
+fn one_more(n: usize) -> usize
+    ensures { λ r. ⌜ r ≡ oneMore n ⌝ }
+{
+    if n < MOST { n + 1 } else { n }
+}
+
+fn is_refused(a: UnitAnswer) -> bool
+    ensures { λ r. ⌜ r ≡ isRefused a ⌝ }
+{
+    match a {
+        UnitAnswer::Slice(_) => false,
+        UnitAnswer::Prefix => false,
+        UnitAnswer::Other(_) => false,
+        UnitAnswer::Refused(_) => true,
+    }
+}
+
+// The state after a unit.
+fn counted(state: State, next: usize, a: UnitAnswer) -> State
+    ensures { λ r. ⌜ r ≡ counted state next a ⌝ }
+{
+    let units = one_more(state.units);
+    if is_refused(a) {
+        return State {
+            from: next,
+            units,
+            refused: one_more(state.refused),
+        };
+    }
+    State {
+        from: next,
+        units,
+        refused: state.refused,
+    }
+}
+
+// The one line for a recording that is too long.
+fn too_long(state: State, line: &mut [u8; 128]) -> Listed
+    ensures { λ r. ⌜ Ends tooLongLine state (now (line .entry)) r (now (line .exit)) ⌝ }
+{
+    let length = too_long_line(line);
+    Listed {
+        state,
+        length,
+        more: false,
+    }
+}
+
+// The totals.
+fn finish(state: State, line: &mut [u8; 128]) -> Listed
+    ensures { λ r. ⌜ Ends (endLine (state .units) (state .refused)) state (now (line .entry)) r (now (line .exit)) ⌝ }
+{
+    let length = end_line(line, state.units, state.refused);
+    Listed {
+        state,
+        length,
+        more: false,
+    }
+}
+
+// The next line of a listing, by the sets in a table's two arrays, to the front of `line`. Scratch is the walk's.
+pub fn list_step<'a>(
+    sequences: &'a [u32; 320],
+    pictures: &'a [u32; 3328],
+    recording: &[u8],
+    state: State,
+    scratch: &mut [u8],
+    line: &mut [u8; 128],
+) -> Listed
+    ensures { λ r. ⌜ Stepped (turn (tableOf (now (sequences .entry)) (now (pictures .entry))) (now (recording .entry)) state (now (scratch .entry))) (now (line .entry)) r (now (scratch .exit)) (now (line .exit)) ⌝ }
+{
+    if MOST < recording.len() {
+        return too_long(state, line);
+    }
+    let from = state.from;
+    let w = walk_in(sequences, pictures, recording, from, scratch);
+    let step = w.step;
+    match step {
+        Step::Unit(place, n, next) => {
+            let end = place + n;
+            let read = w.read;
+            let answer = read.answer;
+            let length = unit_line(line, pictures, place, &recording[place..end], read);
+            Listed {
+                state: counted(state, next, answer),
+                length,
+                more: true,
+            }
+        }
+        Step::End => finish(state, line),
+        Step::Refused(_) => finish(state, line),
+    }
+}

@@ -1,0 +1,50 @@
+// Writes the listing of a recording (document 01, 'A listing, whole'): reads at most 65,536 bytes of standard input, lists them with the sample sets, and writes
+// each line as it comes. Here bytes are read and written; what the lines say is the crate `listed`'s.
+mod input; // all of standard input
+
+use libc::STDERR_FILENO;
+use libc::STDOUT_FILENO;
+use listed::sample::sample_table;
+use listed::step::list_step;
+use listed::step::start;
+
+fn complain(words: &[u8]) {
+    io::write_all(STDERR_FILENO, words);
+}
+
+// Line after line, until there are no more or one cannot be written.
+fn print(recording: &[u8], scratch: &mut [u8]) {
+    let t = sample_table();
+    let mut line = [0u8; 128];
+    let mut state = start();
+    loop {
+        let l = list_step(
+            &t.sequences,
+            &t.pictures,
+            recording,
+            state,
+            scratch,
+            &mut line,
+        );
+        let n = l.length;
+        if !io::write_all(STDOUT_FILENO, &line[..n]) {
+            complain(b"listing: standard output cannot be written\n");
+            return;
+        }
+        if !l.more {
+            return;
+        }
+        state = l.state;
+    }
+}
+
+fn main() {
+    let mut bytes = input::room();
+    let mut scratch = io::large_buffer();
+    let got = input::read_all(&mut bytes);
+    let input::Input::Bytes(n) = got else {
+        complain(b"listing: standard input cannot be read\n");
+        return;
+    };
+    print(&bytes[..n], &mut scratch);
+}
