@@ -12,8 +12,8 @@ fn complain(words: &[u8]) {
     io::write_all(STDERR_FILENO, words);
 }
 
-// Line after line, until there are no more or one cannot be written.
-fn print(recording: &[u8], scratch: &mut [u8]) {
+// Line after line, until there are no more; false where one cannot be written.
+fn print(recording: &[u8], scratch: &mut [u8]) -> bool {
     let t = sample_table();
     let mut line = [0u8; 128];
     let mut state = start();
@@ -28,11 +28,10 @@ fn print(recording: &[u8], scratch: &mut [u8]) {
         );
         let n = l.length;
         if !io::write_all(STDOUT_FILENO, &line[..n]) {
-            complain(b"listing: standard output cannot be written\n");
-            return;
+            return false;
         }
         if !l.more {
-            return;
+            return true;
         }
         state = l.state;
     }
@@ -46,5 +45,7 @@ fn main() {
         complain(b"listing: standard input cannot be read\n");
         return;
     };
-    print(&bytes[..n], &mut scratch);
+    if !print(&bytes[..n], &mut scratch) {
+        complain(b"listing: standard output cannot be written\n");
+    }
 }

@@ -1,0 +1,81 @@
+use borrow.Author.Needs.{needs}
+use mathlib.Core.Path.{_≡_, refl, sym, ap, _∙_}
+use native.Mathlib.Omega.{arith}
+use lib.Seq.{length-take-le}
+use Rattle.table.proofs.Tests.{held}
+use Rattle.lines.proofs.Texts.{same-line}
+use Rattle.listed.specs.declared.step.State.{State}
+use Rattle.listed.proofs.Turns.{goes-on}
+use Prim.Native.Nat.{_≤_, _-_}
+use lib.ListN.{length}
+use Rattle.listing.proofs.print.Statement.{statement}
+use Rattle.listing.proofs.print.Tie as tie
+
+abbrev Inv-loop : tie.InvT-loop
+Inv-loop recording scratch₀ t line₀ state₀ scratch line state = (length scratch ≡ length scratch₀) × ((length line ≡ 128) × (state .from ≤ length recording))
+
+abbrev μ-loop : tie.MeasureT-loop
+μ-loop recording scratch₀ t line₀ state₀ scratch line state = length recording - state .from
+
+sample-table-requires : tie.Need-sample-table-requires Inv-loop μ-loop
+sample-table-requires c κs = search needs
+
+start-requires : tie.Need-start-requires Inv-loop μ-loop
+start-requires c κs = search needs
+
+loop-holds : tie.Need-loop-holds Inv-loop μ-loop
+loop-holds c = (refl, (refl, rw (c .start .ensures) (omega arith)))
+
+list-step-requires : tie.Need-list-step-requires Inv-loop μ-loop
+list-step-requires c κs = search needs
+
+array-share-prefix-line : tie.Need-array-share-prefix-line Inv-loop μ-loop
+array-share-prefix-line c = omega (arith, c .before .before .list-step .ensures .text .short, same-line (c .before .before .list-step .ensures .text), c .before .before .before .before .before .before .before .before .loop .inv .1 .0)
+
+slice-aggregate-write-all : tie.Need-slice-aggregate-write-all Inv-loop μ-loop
+slice-aggregate-write-all c = sym (length-take-le _ _ (omega (arith, c .before .before .before .list-step .ensures .text .short, same-line (c .before .before .before .list-step .ensures .text), c .before .before .before .before .before .before .before .before .before .loop .inv .1 .0)))
+
+write-all-requires : tie.Need-write-all-requires Inv-loop μ-loop
+write-all-requires c κs = search needs
+
+same-length : tie.Need-same-length Inv-loop μ-loop
+same-length c = c .before .before .before .before .before .list-step .kept .1 .1 .1 .1 .0 ∙ c .before .before .before .before .before .before .before .before .before .before .before .loop .inv .0
+
+returns : tie.Need-returns Inv-loop μ-loop
+returns c = search needs
+
+same-length-2 : tie.Need-same-length-2 Inv-loop μ-loop
+same-length-2 c = c .before .before .before .before .before .before .before .list-step .kept .1 .1 .1 .1 .0 ∙ c .before .before .before .before .before .before .before .before .before .before .before .before .before .loop .inv .0
+
+returns-2 : tie.Need-returns-2 Inv-loop μ-loop
+returns-2 c = search needs
+
+loop-less : tie.Need-loop-less Inv-loop μ-loop
+loop-less c =
+    let g = goes-on _ _ _ _ (held (c .before .before .before .before .before .before .before .before .list-step .ensures .more) (c .before .if2 .left)) in
+    omega (arith, g .0, g .1, ap (λ (s : State). s .from) (c .before .before .before .before .before .before .before .before .list-step .ensures .state))
+
+loop-again : tie.Need-loop-again Inv-loop μ-loop
+loop-again c =
+    let g = goes-on _ _ _ _ (held (c .before .before .before .before .before .before .before .before .list-step .ensures .more) (c .before .if2 .left)) in
+    (c .before .before .before .before .before .before .before .before .list-step .kept .1 .1 .1 .1 .0 ∙ c .before .before .before .before .before .before .before .before .before .before .before .before .before .before .loop .inv .0, (same-line (c .before .before .before .before .before .before .before .before .list-step .ensures .text) ∙ c .before .before .before .before .before .before .before .before .before .before .before .before .before .before .loop .inv .1 .0, omega (arith, g .1, ap (λ (s : State). s .from) (c .before .before .before .before .before .before .before .before .list-step .ensures .state))))
+
+pub print-spec : {M : Type 1} → statement M
+print-spec =
+    tie.close
+    (tie.spec
+    Inv-loop
+    μ-loop
+    sample-table-requires
+    start-requires
+    loop-holds
+    list-step-requires
+    array-share-prefix-line
+    slice-aggregate-write-all
+    write-all-requires
+    same-length
+    returns
+    same-length-2
+    returns-2
+    loop-less
+    loop-again)
