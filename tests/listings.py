@@ -2,7 +2,7 @@
 """Runs the program `listing` on torn recordings and compares what it prints with what a model in plain Python works out, with no line of the library.
 
 listings.py           holds each tests/listings/NAME.txt to the model, and the program's output on NAME.hex to it; then larger recordings, which are not kept as
-                      files, a slow pipe and a read that fails
+                      files, a slow pipe, and a read and a write that fail
 listings.py --write   writes the files
 The program is target/bin/listing; where it is missing or older than its crates, `rt check listing` makes it. The kit's loader runs it, as `rt check` does, and on
 another processor than x86-64 the kit's emulator.
@@ -339,6 +339,12 @@ def main():
     count += 1
     if done.stdout or b"cannot be read" not in done.stderr:
         faults.append(f"a read that fails: the program wrote {done.stdout!r} and said {done.stderr!r}")
+    # nor is a line that cannot be written taken for written
+    with open("/dev/full", "wb") as full:
+        done = subprocess.run(program, input=SAMPLE, stdout=full, stderr=subprocess.PIPE)
+    count += 1
+    if b"cannot be written" not in done.stderr:
+        faults.append(f"a write that fails: the program said {done.stderr!r}")
     for fault in faults:
         print("listings:", fault)
     if faults:
