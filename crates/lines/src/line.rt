@@ -16,7 +16,7 @@ ghost use Rattle.lines.specs.Text.{Put};
 ghost use Rattle.lines.specs.Lines.{initQp, qpOf, isSvc, sliceText, prefixText, refusedText, answerText, unitLine, endLine, tooLongLine, Written};
 
 // pic_init_qp_minus26 of the picture set that a header names; 0 where the table has none.
-fn init_qp(pictures: &[u32; 3328], id: u32) -> i32
+fn init_qp(pictures: &[u32; 2048], id: u32) -> i32
     ensures { λ r. ⌜ r ≡ initQp (now (pictures .entry)) id ⌝ }
 {
     match picture_in(pictures, id) {
@@ -26,7 +26,7 @@ fn init_qp(pictures: &[u32; 3328], id: u32) -> i32
 }
 
 // QP, in 64 bits, which hold the sum of any numbers of 32.
-fn qp(pictures: &[u32; 3328], id: u32, delta: i32) -> i64
+fn qp(pictures: &[u32; 2048], id: u32, delta: i32) -> i64
     ensures { λ r. ⌜ r ≡ qpOf (now (pictures .entry)) id delta ⌝ }
 {
     26 + init_qp(pictures, id) as i64 + delta as i64
@@ -79,7 +79,7 @@ fn refused_words(d: &mut [u8; 128], at: usize, r: Refusal) -> usize
 fn answer_words(
     d: &mut [u8; 128],
     at: usize,
-    pictures: &[u32; 3328],
+    pictures: &[u32; 2048],
     unit: &[u8],
     read: UnitRead,
 ) -> usize
@@ -104,7 +104,7 @@ fn answer_words(
 // A unit's line: its place, its length, and what reading it answered.
 pub fn unit_line(
     line: &mut [u8; 128],
-    pictures: &[u32; 3328],
+    pictures: &[u32; 2048],
     place: usize,
     unit: &[u8],
     read: UnitRead,

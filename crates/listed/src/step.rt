@@ -102,8 +102,8 @@ fn finish(state: State, line: &mut [u8; 128]) -> Listed
 
 // The next line of a listing, by the sets in a table's two arrays, to the front of `line`. Scratch is the walk's.
 pub fn list_step<'a>(
-    sequences: &'a [u32; 320],
-    pictures: &'a [u32; 3328],
+    sequences: &'a [u32; 224],
+    pictures: &'a [u32; 2048],
     recording: &[u8],
     state: State,
     scratch: &mut [u8],
