@@ -32,7 +32,8 @@ fn hit_at(s: &[u8], i: usize, least: u8) -> bool
     c <= 1
 }
 
-// The first place from `from` on where 00 00 and a byte from `least` to 1 stand, or the end.
+// The first place from `from` on where 00 00 and a byte from `least` to 1 stand, or the end. Where the third byte ahead is above 1, nothing begins at any of the
+// three, and it moves on by three.
 fn seek(s: &[u8], from: usize, least: u8) -> usize
     requires { ⌜ from ≤ length (now s) ⌝ }
     ensures { λ r. ⌜ r ≡ from + upto least (drop from (now (s .entry))) ⌝ }
@@ -40,10 +41,15 @@ fn seek(s: &[u8], from: usize, least: u8) -> usize
     let n = s.len();
     let mut i = from;
     while 2 < n - i {
-        if hit_at(s, i, least) {
-            return i;
+        // a byte above 1 is none of the three
+        if 1 < s[i + 2] {
+            i += 3;
+        } else {
+            if hit_at(s, i, least) {
+                return i;
+            }
+            i += 1;
         }
-        i += 1;
     }
     n
 }

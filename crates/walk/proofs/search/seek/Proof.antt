@@ -1,10 +1,10 @@
 use borrow.Author.Needs.{needs}
 use native.Mathlib.Omega.{arith}
-use mathlib.Core.Path.{_≡_, sym, _∙_}
-use Prim.Native.Nat.{_+_, _-_, _≤_}
+use mathlib.Core.Path.{_≡_, refl, sym, ap, _∙_}
+use Prim.Native.Nat.{ℕ, _+_, _-_, _≤_}
 use lib.ListN.{length, drop, length-drop}
 use Rattle.walk.specs.Walk.{upto}
-use Rattle.walk.proofs.Hits.{upto-hit, upto-miss, upto-short}
+use Rattle.walk.proofs.Hits.{upto-hit, upto-miss, upto-skip, upto-short}
 use Rattle.walk.proofs.search.seek.Statement.{statement}
 use Rattle.walk.proofs.search.seek.Tie as tie
 
@@ -20,14 +20,11 @@ loop-holds c = search needs
 sub-loop : tie.Need-sub-loop Inv-loop μ-loop
 sub-loop c = search needs
 
-hit-at-requires : tie.Need-hit-at-requires Inv-loop μ-loop
-hit-at-requires c κs = search needs
+add-if1 : tie.Need-add-if1 Inv-loop μ-loop
+add-if1 c = search needs
 
-returns : tie.Need-returns Inv-loop μ-loop
-returns c =
-    let a = c .before .before .before .before .before .args in
-    let z : upto (a .least) (drop (c .before .before .before .loop .i) (a .s .now)) ≡ 0 = upto-hit (a .least) (drop (c .before .before .before .loop .i) (a .s .now)) (sym (c .before .hit-at .ensures) ∙ c .if1 .taken) in
-    omega arith
+shared-slice-read-if1 : tie.Need-shared-slice-read-if1 Inv-loop μ-loop
+shared-slice-read-if1 c = search needs
 
 add-i : tie.Need-add-i Inv-loop μ-loop
 add-i c = search needs
@@ -37,9 +34,31 @@ loop-less c = search needs
 
 loop-again : tie.Need-loop-again Inv-loop μ-loop
 loop-again c =
-    let a = c .before .before .before .before .before .args in
-    let i = c .before .before .before .loop .i in
-    (omega arith, c .before .before .before .loop .inv .1 ∙ upto-miss (a .least) (a .s .now) i (omega arith) (sym (c .before .hit-at .ensures) ∙ c .if1 .left))
+    let l = c .before .before .before in
+    let a = l .before .before .args in
+    (omega arith, l .loop .inv .1 ∙ upto-skip (a .least) (a .s .now) (l .loop .i) (omega arith) (c .if1 .taken))
+
+hit-at-requires : tie.Need-hit-at-requires Inv-loop μ-loop
+hit-at-requires c κs = search needs
+
+returns : tie.Need-returns Inv-loop μ-loop
+returns c =
+    let l = c .before .before .before .before .before in
+    let a = l .before .before .args in
+    let z : upto (a .least) (drop (l .loop .i) (a .s .now)) ≡ 0 = upto-hit (a .least) (drop (l .loop .i) (a .s .now)) (sym (c .before .hit-at .ensures) ∙ c .if2 .taken) in
+    omega arith
+
+add-i-2 : tie.Need-add-i-2 Inv-loop μ-loop
+add-i-2 c = search needs
+
+loop-less-2 : tie.Need-loop-less-2 Inv-loop μ-loop
+loop-less-2 c = search needs
+
+loop-again-2 : tie.Need-loop-again-2 Inv-loop μ-loop
+loop-again-2 c =
+    let l = c .before .before .before .before .before in
+    let a = l .before .before .args in
+    (omega arith, l .loop .inv .1 ∙ upto-miss (a .least) (a .s .now) (l .loop .i) (omega arith) (sym (c .before .hit-at .ensures) ∙ c .if2 .left))
 
 returns-2 : tie.Need-returns-2 Inv-loop μ-loop
 returns-2 c =
@@ -57,9 +76,14 @@ seek-spec =
     μ-loop
     loop-holds
     sub-loop
-    hit-at-requires
-    returns
+    add-if1
+    shared-slice-read-if1
     add-i
     loop-less
     loop-again
+    hit-at-requires
+    returns
+    add-i-2
+    loop-less-2
+    loop-again-2
     returns-2)
