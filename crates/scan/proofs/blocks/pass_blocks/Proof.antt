@@ -1,0 +1,64 @@
+use borrow.Author.Needs.{needs}
+use native.Mathlib.Omega.{arith}
+use Prim.Native.Nat.{ℕ, _+_, _-_, _≤_, _<_}
+use lib.ListN.{length}
+use Rattle.scan.specs.Clear.{Clear}
+use Rattle.scan.proofs.Clears.{clear-join}
+use Rattle.scan.proofs.blocks.pass_blocks.Statement.{statement}
+use Rattle.scan.proofs.blocks.pass_blocks.Tie as tie
+
+abbrev Inv-loop : tie.InvT-loop
+Inv-loop s from count mask flip n i₀ i = (from ≤ i) × (i ≤ length s) × Clear mask flip s from i
+
+abbrev μ-loop : tie.MeasureT-loop
+μ-loop s from count mask flip n i₀ i = length s - i
+
+loop-holds : tie.Need-loop-holds Inv-loop μ-loop
+loop-holds c = (omega arith, omega arith, λ j a b p. absurd (omega arith))
+
+add-loop : tie.Need-add-loop Inv-loop μ-loop
+add-loop c = search needs
+
+sub-loop : tie.Need-sub-loop Inv-loop μ-loop
+sub-loop c = search needs
+
+is-clear-requires : tie.Need-is-clear-requires Inv-loop μ-loop
+is-clear-requires c κs = search needs
+
+add-i : tie.Need-add-i Inv-loop μ-loop
+add-i c = search needs
+
+loop-less : tie.Need-loop-less Inv-loop μ-loop
+loop-less c = search needs
+
+loop-again : tie.Need-loop-again Inv-loop μ-loop
+loop-again c = 
+    let l = c .before .before .before in
+    let a = l .before .before .args in
+    (
+      omega arith,
+      omega arith,
+      clear-join (a .mask) (a .flip) (a .s .now) (a .from) (l .loop .i) (l .loop .i + a .count) (l .loop .inv .2) (c .before .is-clear .ensures (c .if1 .taken)),
+    )
+
+returns : tie.Need-returns Inv-loop μ-loop
+returns c = c .before .before .before .loop .inv
+
+returns-2 : tie.Need-returns-2 Inv-loop μ-loop
+returns-2 c = c .before .loop .inv
+
+pub pass-blocks-spec : {M : Type 1} → statement M
+pass-blocks-spec =
+    tie.close
+    (tie.spec
+    Inv-loop
+    μ-loop
+    loop-holds
+    add-loop
+    sub-loop
+    is-clear-requires
+    add-i
+    loop-less
+    loop-again
+    returns
+    returns-2)

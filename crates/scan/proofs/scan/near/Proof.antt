@@ -1,0 +1,30 @@
+use native.Mathlib.Omega.{arith}
+use Rattle.scan.proofs.Clears.{near-low, near-one}
+use borrow.Author.Needs.{needs}
+use Rattle.scan.proofs.scan.near.Statement.{statement}
+use Rattle.scan.proofs.scan.near.Tie as tie
+
+pass-over-requires : tie.Need-pass-over-requires
+pass-over-requires c κs = search needs
+
+returns : tie.Need-returns
+returns c =
+    let a = c .before .before .before .args in
+    let p = c .pass-over .ensures in
+    (p .1, near-one (a .low) (a .high) (a .s .now) (a .from) (c .pass-over .result) (p .0) (p .1) (c .before .if1 .taken) (search needs) (p .2))
+
+returns-2 : tie.Need-returns-2
+returns-2 c = search needs
+
+pass-over-requires-2 : tie.Need-pass-over-requires-2
+pass-over-requires-2 c κs = search needs
+
+returns-3 : tie.Need-returns-3
+returns-3 c =
+    let a = c .before .before .before .before .args in
+    let p = c .pass-over2 .ensures in
+    (p .1, near-low (a .low) (a .high) (a .s .now) (a .from) (c .pass-over2 .result) (p .0) (p .1) (omega arith) (p .2))
+
+pub near-spec : {M : Type 1} → statement M
+near-spec =
+    tie.close (tie.spec pass-over-requires returns returns-2 pass-over-requires-2 returns-3)

@@ -1,0 +1,65 @@
+use borrow.Author.Needs.{needs}
+use native.Mathlib.Omega.{arith}
+use mathlib.Core.Path.{_≡_, refl, sym, ap, _∙_}
+use Prim.Native.Nat.{ℕ, _+_, _-_, _≤_}
+use lib.ListN.{length, drop, length-drop}
+use Rattle.scan.specs.Scan.{upto}
+use Rattle.scan.proofs.Hits.{upto-hit, upto-miss, upto-short}
+use Rattle.scan.proofs.scan.seek_plain.Statement.{statement}
+use Rattle.scan.proofs.scan.seek_plain.Tie as tie
+
+abbrev Inv-loop : tie.InvT-loop
+Inv-loop s from low high n i₀ i = (i ≤ length s) × (from + upto low high (drop from s) ≡ i + upto low high (drop i s))
+
+abbrev μ-loop : tie.MeasureT-loop
+μ-loop s from low high n i₀ i = length s - i
+
+loop-holds : tie.Need-loop-holds Inv-loop μ-loop
+loop-holds c = search needs
+
+sub-loop : tie.Need-sub-loop Inv-loop μ-loop
+sub-loop c = search needs
+
+hit-at-requires : tie.Need-hit-at-requires Inv-loop μ-loop
+hit-at-requires c κs = search needs
+
+returns : tie.Need-returns Inv-loop μ-loop
+returns c =
+    let a = c .before .before .before .before .before .args in
+    let z : upto (a .low) (a .high) (drop (c .before .before .before .loop .i) (a .s .now)) ≡ 0 = upto-hit (a .low) (a .high) (drop (c .before .before .before .loop .i) (a .s .now)) (sym (c .before .hit-at .ensures) ∙ c .if1 .taken) in
+    omega arith
+
+add-i : tie.Need-add-i Inv-loop μ-loop
+add-i c = search needs
+
+loop-less : tie.Need-loop-less Inv-loop μ-loop
+loop-less c = search needs
+
+loop-again : tie.Need-loop-again Inv-loop μ-loop
+loop-again c =
+    let a = c .before .before .before .before .before .args in
+    let i = c .before .before .before .loop .i in
+    (omega arith, c .before .before .before .loop .inv .1 ∙ upto-miss (a .low) (a .high) (a .s .now) i (omega arith) (sym (c .before .hit-at .ensures) ∙ c .if1 .left))
+
+returns-2 : tie.Need-returns-2 Inv-loop μ-loop
+returns-2 c =
+    let a = c .before .before .before .args in
+    let i = c .before .loop .i in
+    let short : length (drop i (a .s .now)) ≤ 2 = rw length-drop (omega arith) in
+    let z : upto (a .low) (a .high) (drop i (a .s .now)) ≡ length (a .s .now) - i = upto-short (a .low) (a .high) (drop i (a .s .now)) short ∙ length-drop i (a .s .now) in
+    omega arith
+
+pub seek-plain-spec : {M : Type 1} → statement M
+seek-plain-spec =
+    tie.close
+    (tie.spec
+    Inv-loop
+    μ-loop
+    loop-holds
+    sub-loop
+    hit-at-requires
+    returns
+    add-i
+    loop-less
+    loop-again
+    returns-2)
