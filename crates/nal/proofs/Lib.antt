@@ -1,6 +1,6 @@
 pub mod Types
 pub mod FirstByte
 pub mod ThreeBytes
-pub mod Kept
+pub mod Runs
 pub mod Bodies
 pub mod Examples

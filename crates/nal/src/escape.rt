@@ -4,12 +4,13 @@ use bits::refusals::LIMIT;
 use bits::refusals::Refusal;
 use bits::refusals::TOO_LARGE;
 use bits::refusals::refuse;
+use scan::scan::seek;
 ghost use mathlib.Core.Path.{_≡_};
 ghost use mathlib.Core.List.{_++_};
-ghost use Prim.Native.Nat.{_<_, _≤_};
+ghost use Prim.Native.Nat.{_+_, _≤_};
 ghost use lib.ListN.{length, drop};
-ghost use Rattle.bits.specs.Refusals.{limit};
-ghost use Rattle.nal.specs.Body.{drops, zeros, body, unescaped};
+ghost use lib.Seq.{paste};
+ghost use Rattle.nal.specs.Body.{body, unescaped};
 
 // What unescaping answers.
 pub enum Body {
@@ -34,44 +35,40 @@ pub fn unescape(unit: &[u8], from: usize, scratch: &mut [u8]) -> Body
     Body::Of(copy_kept(unit, from, scratch))
 }
 
-// The loop: the bytes of `unit` from `from` on that are kept, to the front of `scratch`; how many they are.
+// The loop: the bytes of `unit` from `from` on that are kept, to the front of `scratch`; how many they are. Up to the next 00 00 03 all are, and its 03 is not.
+// Zeros before that 03 do not count again, so each run starts as the body does.
 fn copy_kept(unit: &[u8], from: usize, scratch: &mut [u8]) -> usize
     requires { ⌜ length (now unit) ≤ length (now scratch) ⌝ }
-    requires { ⌜ length (now unit) ≤ limit ⌝ }
     ensures { λ r. ⌜ r ≡ length (body 0 (drop from (now (unit .entry)))) ⌝ }
     ensures { λ r. ⌜ now (scratch .exit) ≡ body 0 (drop from (now (unit .entry))) ++ drop r (now (scratch .entry)) ⌝ }
 {
+    let n = unit.len();
+    if n < from {
+        return 0;
+    }
     let mut i = from;
     let mut o: usize = 0;
-    let mut z: usize = 0;
-    while i < unit.len() {
-        let b = unit[i];
-        i += 1;
-        if dropped(z, b) {
-            z = 0;
-        } else {
-            scratch[o] = b;
-            o += 1;
-            z = zeros_after(z, b);
+    loop {
+        let e = seek(unit, i, 3, 3);
+        if n <= e {
+            return copy_in(&unit[i..], scratch, o);
         }
+        let stop = e + 2;
+        o = copy_in(&unit[i..stop], scratch, o);
+        i = e + 3;
     }
-    o
 }
 
-// Whether the byte `b` is dropped after `z` zero bytes.
-fn dropped(z: usize, b: u8) -> bool
-    ensures { λ r. ⌜ r ≡ drops z b ⌝ }
+// Copies all of `src` into `dst` from `at` on; the place after it.
+fn copy_in(src: &[u8], dst: &mut [u8], at: usize) -> usize
+    requires { ⌜ at + length (now src) ≤ length (now dst) ⌝ }
+    ensures { λ r. ⌜ r ≡ at + length (now (src .entry)) ⌝ }
+    ensures { λ _. ⌜ now (dst .exit) ≡ paste (now (dst .entry)) at (now (src .entry)) (length (now (src .entry))) ⌝ }
 {
-    if z < 2 {
-        return false;
+    let mut j: usize = 0;
+    while j < src.len() {
+        dst[at + j] = src[j];
+        j += 1;
     }
-    b == 3
-}
-
-// How many zero bytes stand right before the byte that follows `b`.
-fn zeros_after(z: usize, b: u8) -> usize
-    requires { ⌜ z < limit ⌝ }
-    ensures { λ r. ⌜ r ≡ zeros z b ⌝ }
-{
-    if b == 0 { z + 1 } else { 0 }
+    at + j
 }

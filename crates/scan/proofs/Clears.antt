@@ -74,7 +74,7 @@ module _ (k m : ℕ) (s : List ℕ) (j : ℕ) (e : hit k m (drop j s) ≡ true) 
   h : j + 2 < length s
   h = omega (arith, hit-room k m (drop j s) e, length-drop j s)
 
-  four : (getD s j 0 ≡ 0) × (getD s (j + 1) 0 ≡ 0) × (k ≤ getD s (j + 2) 0) × (getD s (j + 2) 0 ≤ m)
+  pub four : (getD s j 0 ≡ 0) × (getD s (j + 1) 0 ≡ 0) × (k ≤ getD s (j + 2) 0) × (getD s (j + 2) 0 ≤ m)
   four =
       let p = all-four (eqb (getD s j 0) 0) (eqb (getD s (j + 1) 0) 0) (leb k (getD s (j + 2) 0)) (leb (getD s (j + 2) 0) m) (sym (hit-drop k m s j h) ∙ e) in
       (eqb-true (getD s j 0) 0 (p .0), eqb-true (getD s (j + 1) 0) 0 (p .1), leb-true k (getD s (j + 2) 0) (p .2), leb-true (getD s (j + 2) 0) m (p .3))

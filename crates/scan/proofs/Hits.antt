@@ -2,7 +2,7 @@
 use mathlib.Core.Path.{_≡_, refl}
 use mathlib.Core.List.{List, [], _∷_}
 use mathlib.Core.Bool.{Bool, true, false, _&&_, and-false, false≢true}
-use Prim.Native.Nat.{ℕ, suc, _+_, _-_, _≤_, _<_}
+use Prim.Native.Nat.{ℕ, zero, suc, _+_, _≤_, _<_}
 use native.Mathlib.Omega.{arith}
 use native.Mathlib.Numerals.{add-one}
 use lib.Dec.{eqb, leb}
@@ -81,6 +81,17 @@ upto-le k m (a ∷ r) = go (hit k m (a ∷ r)) (upto-le k m r)
     go : (t : Bool) → upto k m r ≤ length r → pick t 0 (suc (upto k m r)) ≤ suc (length r)
     go true h = omega arith
     go false h = omega arith
+
+-- nothing that is sought begins before
+pub upto-before : (k m : ℕ) (l : List ℕ) (j : ℕ) → j < upto k m l → hit k m (drop j l) ≡ false
+upto-before k m [] j h = absurd (omega arith)
+upto-before k m (a ∷ r) j h = go (hit k m (a ∷ r)) refl j h (upto-before k m r)
+  where
+    go : (t : Bool) → hit k m (a ∷ r) ≡ t → (i : ℕ) → i < pick t 0 (suc (upto k m r)) → ((n : ℕ) → n < upto k m r → hit k m (drop n r) ≡ false)
+        → hit k m (drop i (a ∷ r)) ≡ false
+    go true e i g ih = absurd (omega arith)
+    go false e zero g ih = e
+    go false e (suc i) g ih = ih i (omega arith)
 
 -- the search stops at what it looks for
 pub upto-at : (k m : ℕ) (l : List ℕ) → upto k m l < length l → hit k m (drop (upto k m l) l) ≡ true

@@ -48,10 +48,6 @@ pub hit-second : (k a b : ℕ) (r : List ℕ) → (b ≡ 0 → ⊥) → hit k (a
 hit-second k a b [] n = refl
 hit-second k a b (c ∷ r) n = rw (ne-eqb b 0 n) (simp and-false)
 
--- nor is a byte above 1 any of the three
-hit-third : (k a b c : ℕ) (r : List ℕ) → 1 < c → hit k (a ∷ b ∷ c ∷ r) ≡ false
-hit-third k a b c r n = rw (lt-leb c 1 n) (simp and-false)
-
 -- where it stands, its three bytes do
 pub hit-room : (k : ℕ) (l : List ℕ) → hit k l ≡ true → 3 ≤ length l
 hit-room k [] e = absurd (false≢true e)
@@ -71,28 +67,6 @@ upto-miss k s i h e =
     let d : drop i s ≡ getD s i 0 ∷ drop (suc i) s = drop-cons s i 0 h in
     let f : hit k (getD s i 0 ∷ drop (suc i) s) ≡ false = rw (← d) e in
     rw (add-one, d, f) (omega arith)
-
--- so where the third byte ahead is above 1, the search goes on behind it
-pub upto-skip : (k : ℕ) (s : List ℕ) (i : ℕ) → i + 2 < length s → 1 < getD s (i + 2) 0
-    → i + upto k (drop i s) ≡ i + 3 + upto k (drop (i + 3) s)
-upto-skip k s i h n =
-    let h0 : i < length s = omega arith in
-    let h1 : suc i < length s = omega arith in
-    let h2 : suc (suc i) < length s = omega arith in
-    let e2 : i + 2 ≡ suc (suc i) = omega arith in
-    let e3 : i + 3 ≡ suc (suc (suc i)) = omega arith in
-    let c : 1 < getD s (suc (suc i)) 0 = rw e2 at n in
-    let z : getD s (suc (suc i)) 0 ≡ 0 → ⊥ = omega arith in
-    let r = drop (suc (suc (suc i))) s in
-    rw (
-      e3,
-      drop-cons s i 0 h0,
-      drop-cons s (suc i) 0 h1,
-      drop-cons s (suc (suc i)) 0 h2,
-      hit-third k (getD s i 0) (getD s (suc i) 0) (getD s (suc (suc i)) 0) r c,
-      hit-second k (getD s (suc i) 0) (getD s (suc (suc i)) 0) r z,
-      hit-first k (getD s (suc (suc i)) 0) r z,
-    ) (omega arith)
 
 pub upto-short : (k : ℕ) (l : List ℕ) → length l ≤ 2 → upto k l ≡ length l
 upto-short k [] h = refl

@@ -1,4 +1,5 @@
 pub mod Hits
+pub mod Scans
 pub mod Trims
 pub mod Nexts
 pub mod Chain

@@ -1,4 +1,5 @@
 // Where a recording's units are. The start code is the fixed three bytes 00 00 01; a unit's end mark is 00 00 00 or 00 00 01.
+use scan::scan::seek;
 ghost use mathlib.Core.Path.{_≡_};
 ghost use Prim.Native.Nat.{_+_, _<_, _≤_};
 ghost use lib.ListN.{length, drop};
@@ -32,26 +33,22 @@ fn hit_at(s: &[u8], i: usize, least: u8) -> bool
     c <= 1
 }
 
-// The first place from `from` on where 00 00 and a byte from `least` to 1 stand, or the end. Where the third byte ahead is above 1, nothing begins at any of the
-// three, and it moves on by three.
-fn seek(s: &[u8], from: usize, least: u8) -> usize
+// The first start code from `from` on, or the end. It most often begins at `from` or a byte later: only then are blocks searched.
+fn seek_start(s: &[u8], from: usize) -> usize
     requires { ⌜ from ≤ length (now s) ⌝ }
-    ensures { λ r. ⌜ r ≡ from + upto least (drop from (now (s .entry))) ⌝ }
+    ensures { λ r. ⌜ r ≡ from + upto 1 (drop from (now (s .entry))) ⌝ }
 {
-    let n = s.len();
-    let mut i = from;
-    while 2 < n - i {
-        // a byte above 1 is none of the three
-        if 1 < s[i + 2] {
-            i += 3;
-        } else {
-            if hit_at(s, i, least) {
-                return i;
-            }
-            i += 1;
-        }
+    if s.len() - from < 4 {
+        return seek(s, from, 1, 1);
     }
-    n
+    if hit_at(s, from, 1) {
+        return from;
+    }
+    let i = from + 1;
+    if hit_at(s, i, 1) {
+        return i;
+    }
+    seek(s, i, 1, 1)
 }
 
 // How many bytes stand from `from` on, without the zero bytes at the end.
@@ -77,12 +74,12 @@ pub fn next_unit(recording: &[u8], from: usize) -> Found
     if n <= from {
         return Found::End;
     }
-    let at = seek(recording, from, 1);
+    let at = seek_start(recording, from);
     if n <= at {
         return Found::End;
     }
     let place = at + 3;
-    let next = seek(recording, place, 0);
+    let next = seek(recording, place, 0, 1);
     if next < n {
         Found::At {
             place,

@@ -38,20 +38,19 @@ loop-less : tie.Need-loop-less Inv-loop μ-loop
 loop-less c = search needs
 
 loop-again : tie.Need-loop-again Inv-loop μ-loop
-loop-again c = 
+loop-again c =
     let q = c .before in
     let r = q .before in
     let l = r .before .before in
-    let a = l .before .before .args in
-    (
+    let a = l .before .before .args in (
       omega arith,
       omega (arith, c .lower .ensures .0),
       first-step (a .mask) (a .flip) (a .s .now) (a .i) (l .loop .k) (l .loop .m) (r .trace .result) (q .place-of .result) (c .lower .result)
-      (l .loop .inv .2) (r .trace .ensures) (q .place-of .ensures) (c .lower .ensures .0) (c .lower .ensures .1),
+          (l .loop .inv .2) (r .trace .ensures) (q .place-of .ensures) (c .lower .ensures .0) (c .lower .ensures .1),
     )
 
 returns : tie.Need-returns Inv-loop μ-loop
-returns c = 
+returns c =
     let l = c .before in
     let a = l .before .before .args in
     let q : l .loop .k ≡ 128 = omega arith in

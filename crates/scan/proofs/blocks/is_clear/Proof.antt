@@ -33,13 +33,12 @@ loop-less : tie.Need-loop-less Inv-loop μ-loop
 loop-less c = search needs
 
 loop-again : tie.Need-loop-again Inv-loop μ-loop
-loop-again c = 
+loop-again c =
     let l = c .before .before .before in
-    let a = l .before .before .args in
-    (
+    let a = l .before .before .args in (
       omega arith,
       clear-step (a .mask) (a .flip) (a .s .now) (a .i) (l .loop .k) (l .loop .m) (c .before .trace .result) (c .lower .result)
-      (l .loop .inv .1) (c .before .trace .ensures) (c .lower .ensures .0) (c .lower .ensures .1),
+          (l .loop .inv .1) (c .before .trace .ensures) (c .lower .ensures .0) (c .lower .ensures .1),
     )
 
 returns : tie.Need-returns Inv-loop μ-loop

@@ -32,10 +32,9 @@ loop-less : tie.Need-loop-less Inv-loop μ-loop
 loop-less c = search needs
 
 loop-again : tie.Need-loop-again Inv-loop μ-loop
-loop-again c = 
+loop-again c =
     let l = c .before .before .before in
-    let a = l .before .before .args in
-    (
+    let a = l .before .before .args in (
       omega arith,
       omega arith,
       clear-join (a .mask) (a .flip) (a .s .now) (a .from) (l .loop .i) (l .loop .i + a .count) (l .loop .inv .2) (c .before .is-clear .ensures (c .if1 .taken)),

@@ -11,10 +11,9 @@ pass-near-requires : tie.Need-pass-near-requires
 pass-near-requires c κs = search needs
 
 returns : tie.Need-returns
-returns c = 
+returns c =
     let p = c .before in
-    let a = p .before .before .args in
-    (
+    let a = p .before .before .args in (
       omega arith,
       omega arith,
       clear-join (a .mask) (a .flip) (a .s .now) (a .from) (p .pass-blocks .result) (c .pass-near .result) (p .pass-blocks .ensures .2) (c .pass-near .ensures .2),

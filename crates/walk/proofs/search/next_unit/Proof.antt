@@ -2,6 +2,8 @@ use borrow.Author.Needs.{needs}
 use native.Mathlib.Omega.{arith}
 use mathlib.Core.Path.{refl}
 use Rattle.walk.proofs.Hits.{code-room}
+use Prim.Native.Nat.{_+_}
+use Rattle.walk.proofs.Scans.{sought}
 use Rattle.walk.proofs.Nexts.{none-from, marked, open-ended}
 use Rattle.walk.proofs.search.next_unit.Statement.{statement}
 use Rattle.walk.proofs.search.next_unit.Tie as tie
@@ -9,21 +11,19 @@ use Rattle.walk.proofs.search.next_unit.Tie as tie
 returns : tie.Need-returns
 returns c = let a = c .before .before .args in none-from (a .recording .now) (a .from) _ refl (omega arith)
 
-seek-requires : tie.Need-seek-requires
-seek-requires c κs = search needs
+seek-start-requires : tie.Need-seek-start-requires
+seek-start-requires c κs = search needs
 
 returns-2 : tie.Need-returns-2
 returns-2 c =
     let a = c .before .before .before .before .args in
-    none-from (a .recording .now) (a .from) (c .before .seek .result) (c .before .seek .ensures) (c .if2 .taken)
+    none-from (a .recording .now) (a .from) (c .before .seek-start .result) (c .before .seek-start .ensures) (c .if2 .taken)
 
 add-place : tie.Need-add-place
 add-place c = search needs
 
-seek-requires-2 : tie.Need-seek-requires-2
-seek-requires-2 c κs =
-    let a = c .before .before .before .before .args in
-    code-room (a .recording .now) (a .from) (c .before .seek .result) (c .before .seek .ensures) (c .if2 .left)
+seek-requires : tie.Need-seek-requires
+seek-requires c κs = search needs
 
 sub-t10 : tie.Need-sub-t10
 sub-t10 c = search needs
@@ -32,30 +32,30 @@ trim-requires : tie.Need-trim-requires
 trim-requires c κs =
     let a = c .before .before .before .before .before .before .args in
     let d = c .before .before in
-    code-room (a .recording .now) (a .from) (d .before .seek .result) (d .before .seek .ensures) (d .if2 .left)
+    code-room (a .recording .now) (a .from) (d .before .seek-start .result) (d .before .seek-start .ensures) (d .if2 .left)
 
 returns-3 : tie.Need-returns-3
 returns-3 c =
     let a = c .before .before .before .before .before .before .args in
     let d = c .before .before in
-    marked (a .recording .now) (a .from) (d .before .seek .result) (c .before .seek2 .result) (d .before .seek .ensures) (d .if2 .left) (c .before .seek2 .ensures) (c .if3 .taken)
+    marked (a .recording .now) (a .from) (d .before .seek-start .result) (c .before .seek .result) (d .before .seek-start .ensures) (d .if2 .left) (sought 0 (a .recording .now) (d .before .seek-start .result + 3) (c .before .seek .result) (c .before .seek .ensures)) (c .if3 .taken)
 
 returns-4 : tie.Need-returns-4
 returns-4 c =
     let e = c .before in
     let a = e .before .before .before .before .before .before .args in
     let d = e .before .before in
-    open-ended (a .recording .now) (a .from) (d .before .seek .result) (e .before .seek2 .result) (d .before .seek .ensures) (d .if2 .left) (e .before .seek2 .ensures) (c .trim .result) (e .if3 .left) (c .trim .ensures)
+    open-ended (a .recording .now) (a .from) (d .before .seek-start .result) (e .before .seek .result) (d .before .seek-start .ensures) (d .if2 .left) (sought 0 (a .recording .now) (d .before .seek-start .result + 3) (e .before .seek .result) (e .before .seek .ensures)) (c .trim .result) (e .if3 .left) (c .trim .ensures)
 
 pub next-unit-spec : {M : Type 1} → statement M
 next-unit-spec =
     tie.close
     (tie.spec
     returns
-    seek-requires
+    seek-start-requires
     returns-2
     add-place
-    seek-requires-2
+    seek-requires
     sub-t10
     trim-requires
     returns-3
