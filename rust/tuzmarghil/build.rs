@@ -5,7 +5,7 @@ use std::{env, fs};
 
 /// The crate that exports, and the files whose `#[repr(C)]` structs cross the boundary.
 const EXPORTS: &str = "exports";
-const RECORDS: [&str; 7] = [
+const RECORDS: [&str; 9] = [
     "table/src/sets.rt",
     "table/src/table.rt",
     "syntax/src/marks.rt",
@@ -13,6 +13,8 @@ const RECORDS: [&str; 7] = [
     "exports/src/sets.rt",
     "exports/src/units.rt",
     "exports/src/walks.rt",
+    "writer/src/given.rt",
+    "exports/src/writes.rt",
 ];
 
 fn main() {

@@ -3,3 +3,4 @@ pub mod ue_run; // a run of codes
 pub mod sets; // the parameter table
 pub mod units; // whole units
 pub mod walks; // the walk over a recording
+pub mod writes; // writing a header

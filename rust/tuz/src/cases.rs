@@ -2,12 +2,12 @@
 
 use crate::answer::Answer;
 use crate::words;
-use anyhow::{Context, Result};
+use anyhow::{ensure, Context, Result};
 use std::io::{BufRead, Write};
 use tuzmarghil::raw::ReadOut;
-use tuzmarghil::{read_unit_raw, Table};
+use tuzmarghil::{read_unit_raw, write_header, Table, Unit};
 
-pub fn run(cases: &mut impl BufRead, to: &mut impl Write) -> Result<()> {
+pub fn run(cases: &mut impl BufRead, rewrite: bool, to: &mut impl Write) -> Result<()> {
     let mut table = Table::new();
     // the words that the table was made of
     let mut made = String::new();
@@ -37,6 +37,43 @@ pub fn run(cases: &mut impl BufRead, to: &mut impl Write) -> Result<()> {
         read_unit_raw(&table, &unit, &mut scratch, &mut out);
         Answer::of(&unit, &out).write(to)?;
         to.write_all(b"\n")?;
+        if rewrite && out.answer == 1 {
+            rewritten(&table, &unit, &scratch, &out).with_context(place)?;
+        }
     }
+    Ok(())
+}
+
+/// Gives the header that was read Rust's types, takes it back to a record, writes that, and compares: the record, the answer, the bits, and what is left as it was.
+fn rewritten(table: &Table, unit: &[u8], body: &[u8], out: &ReadOut) -> Result<()> {
+    let slice = match Unit::from_raw(unit, out) {
+        Ok(Unit::Slice(slice)) => slice,
+        _ => return Ok(()),
+    };
+    ensure!(
+        slice.header.to_raw(table)? == out.header,
+        "another record comes back"
+    );
+    let mut buffer = [0xA5; 6144];
+    let first = slice.nal_header;
+    let bits = write_header(table, first, slice.extension, &slice.header, &mut buffer)?;
+    ensure!(
+        bits == out.bits,
+        "{bits} bits are written, {} were read",
+        out.bits
+    );
+    let (whole, spare) = (bits / 8, bits % 8);
+    ensure!(buffer[..whole] == body[..whole], "other bits come back");
+    let mut end = whole;
+    if spare > 0 {
+        let kept = body[whole] & !(0xFF >> spare);
+        ensure!(
+            buffer[whole] == kept,
+            "other bits come back in the last byte"
+        );
+        end += 1;
+    }
+    let rest = buffer[end..].iter().all(|b| *b == 0xA5);
+    ensure!(rest, "bytes behind the header are changed");
     Ok(())
 }

@@ -91,6 +91,9 @@ Example:
     Cases {
         /// Case lines; `-` is standard input
         file: PathBuf,
+        /// Write each slice header that was read, and stop where its bits do not come back
+        #[arg(long)]
+        rewrite: bool,
     },
 }
 
@@ -137,9 +140,9 @@ fn run(args: Args) -> Result<u8> {
             out.flush()?;
             return Ok(0);
         }
-        What::Cases { file } => {
+        What::Cases { file, rewrite } => {
             let name = || file.display().to_string();
-            cases::run(&mut input::lines(file)?, &mut out).with_context(name)?;
+            cases::run(&mut input::lines(file)?, *rewrite, &mut out).with_context(name)?;
             out.flush()?;
             return Ok(0);
         }

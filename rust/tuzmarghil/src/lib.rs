@@ -39,6 +39,7 @@ mod table;
 mod unit;
 mod unparse;
 mod walk;
+mod write;
 
 pub use nal::{
     NalHeader, NalHeaderExtension, NalHeaderMvcExtension, NalHeaderSvcExtension, UnitType,
@@ -55,6 +56,7 @@ pub use stream::{Stream, StreamReport};
 pub use table::Table;
 pub use unit::{read_unit, read_unit_raw, Slice, Unit};
 pub use walk::{reports, Report, Reports};
+pub use write::write_header;
 
 /// The greatest length of a unit or a recording that one call takes, in bytes; beyond it the answer is refusal 27.
 pub const LIMIT: usize = 268_435_456;

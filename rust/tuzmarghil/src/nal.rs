@@ -1,5 +1,6 @@
 //! A unit's first byte and its extension.
 
+use crate::Refusal;
 use std::fmt;
 
 /// `nal_unit_type`
@@ -79,6 +80,17 @@ impl UnitType {
 pub struct NalHeader(u8);
 
 impl NalHeader {
+    /// A first byte; refusal 2 where its top bit is set.
+    pub fn new(byte: u8) -> Result<NalHeader, Refusal> {
+        if byte > 127 {
+            return Err(Refusal {
+                number: 2,
+                value: 0,
+            });
+        }
+        Ok(NalHeader(byte))
+    }
+
     pub(crate) fn from_byte(byte: u8) -> NalHeader {
         NalHeader(byte)
     }
@@ -190,6 +202,14 @@ impl NalHeaderExtension {
             NalHeaderExtension::Mvc(NalHeaderMvcExtension(bytes))
         } else {
             NalHeaderExtension::Svc(NalHeaderSvcExtension(bytes))
+        }
+    }
+
+    /// The three bytes.
+    pub fn to_bytes(self) -> [u8; 3] {
+        match self {
+            NalHeaderExtension::Mvc(e) => e.0,
+            NalHeaderExtension::Svc(e) => e.0,
         }
     }
 

@@ -29,6 +29,15 @@ extern "C" {
         scratch: *mut u8,
         scratch_len: usize,
     );
+    fn tuz_write_header(
+        out: *mut WroteOut,
+        table: *const Table,
+        first: u8,
+        extension: ExtensionGiven,
+        header: SliceHeader,
+        buffer: *mut u8,
+        buffer_len: usize,
+    );
 }
 
 /// A record of numbers and flags alone, which zero bytes are a value of.
@@ -56,7 +65,7 @@ macro_rules! plain {
     )* };
 }
 
-plain!(Table Sequence Picture SequenceOut PictureOut SliceHeader Prefix ReadOut WalkOut);
+plain!(Table Sequence Picture SequenceOut PictureOut SliceHeader Prefix ReadOut WalkOut WroteOut);
 
 pub fn sequence_at(table: &Table, id: u32) -> SequenceOut {
     let mut out = SequenceOut::default();
@@ -92,4 +101,18 @@ pub fn walk(table: &Table, recording: &[u8], from: usize, scratch: &mut [u8], ou
     let (r, s) = (recording.as_ptr(), scratch.as_mut_ptr());
     // SAFETY: each pointer and length is that of a live slice, and the call requires nothing.
     unsafe { tuz_walk(out, table, r, recording.len(), from, s, scratch.len()) }
+}
+
+pub fn write_header(
+    table: &Table,
+    first: u8,
+    extension: ExtensionGiven,
+    header: SliceHeader,
+    buffer: &mut [u8],
+) -> WroteOut {
+    let mut out = WroteOut::default();
+    let (b, n) = (buffer.as_mut_ptr(), buffer.len());
+    // SAFETY: the pointer and the length are those of a live slice, and the call requires nothing.
+    unsafe { tuz_write_header(&mut out, table, first, extension, header, b, n) };
+    out
 }

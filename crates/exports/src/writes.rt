@@ -1,0 +1,62 @@
+// Writing a slice header.
+use syntax::record::SliceHeader;
+use table::table::Table;
+use writer::given::ExtensionGiven;
+use writer::write::HeaderWrote;
+use writer::write::write_header_in;
+ghost use mathlib.Core.Path.{_≡_};
+ghost use Rattle.header.specs.Lead.{tableOf};
+ghost use Rattle.writer.specs.Write.{writeHeader};
+ghost use Rattle.exports.specs.Writes.{wroteOut};
+
+// What writing a header answers: its length in bits, or document 01's refusal. What the answer does not speak of is zero.
+#[repr(C)]
+pub struct WroteOut {
+    pub number: u32,
+    pub value: i64,
+    pub bits: usize,
+}
+
+fn wrote_out(a: HeaderWrote) -> WroteOut
+    ensures { λ r. ⌜ r ≡ wroteOut a ⌝ }
+{
+    match a {
+        HeaderWrote::Bits(bits) => WroteOut {
+            number: 0,
+            value: 0,
+            bits,
+        },
+        HeaderWrote::Refused(why) => WroteOut {
+            number: why.number as u32,
+            value: why.value,
+            bits: 0,
+        },
+    }
+}
+
+fn write_header_out<'a>(
+    sequences: &'a [u32; 320],
+    pictures: &'a [u32; 3328],
+    first: u8,
+    extension: ExtensionGiven,
+    header: SliceHeader,
+    out: &mut [u8],
+) -> WroteOut
+    ensures { λ r. ⌜ (r ≡ wroteOut (writeHeader (tableOf (now (sequences .entry)) (now (pictures .entry))) first extension header (now (out .entry)) .answer)) × (now (out .exit) ≡ writeHeader (tableOf (now (sequences .entry)) (now (pictures .entry))) first extension header (now (out .entry)) .left) ⌝ }
+{
+    wrote_out(write_header_in(sequences, pictures, first, extension, header, out))
+}
+
+// A header written by the sets of a lent table, for the unit that the first byte and the extension tell of. A refusal leaves the buffer as it was.
+#[no_mangle]
+pub extern "C" fn tuz_write_header(
+    t: &Table,
+    first: u8,
+    extension: ExtensionGiven,
+    header: SliceHeader,
+    out: &mut [u8],
+) -> WroteOut
+    ensures { λ r. ⌜ (r ≡ wroteOut (writeHeader (now (t .entry)) first extension header (now (out .entry)) .answer)) × (now (out .exit) ≡ writeHeader (now (t .entry)) first extension header (now (out .entry)) .left) ⌝ }
+{
+    write_header_out(&t.sequences, &t.pictures, first, extension, header, out)
+}

@@ -1,0 +1,54 @@
+//! Writing slice headers.
+
+use crate::raw::{self, ExtensionGiven};
+use crate::{NalHeader, NalHeaderExtension, Refusal, SliceHeader, Table};
+
+/// Writes a slice header into the front of a buffer, for a unit with this first byte and extension (types 20 and 21 have one), and says how many bits it has.
+///
+/// Whole bytes are filled, spare low bits with zeros; bytes after them are left as they were, and so is all of it by a refusal. 6,144 bytes are enough for every
+/// header. What is written is the unescaped body's beginning.
+///
+/// ```
+/// use tuzmarghil::{read_unit, write_header, Picture, Sequence, Table, Unit};
+///
+/// let mut table = Table::new();
+/// table.put_sequence(0, Sequence { log2_max_frame_num: 4, pic_order_cnt_type: 2, frame_mbs_only_flag: true, chroma_format_idc: 1, pic_size_in_map_units: 99, ..Sequence::default() })?;
+/// table.put_picture(0, Picture::default())?;
+/// let mut slice = match read_unit(&table, &[0x65, 0x88, 0x84, 0xA0], &mut Vec::new())? {
+///     Unit::Slice(slice) => slice,
+///     other => panic!("{other:?}"),
+/// };
+///
+/// let mut out = [0xFF; 4];
+/// assert_eq!(write_header(&table, slice.nal_header, None, &slice.header, &mut out)?, 17);
+/// assert_eq!(out, [0x88, 0x84, 0x80, 0xFF]);
+///
+/// slice.header.slice_qp_delta = 40;
+/// let refusal = write_header(&table, slice.nal_header, None, &slice.header, &mut out).unwrap_err();
+/// assert_eq!(refusal.number, 25);
+/// # Ok::<(), tuzmarghil::Refusal>(())
+/// ```
+pub fn write_header(
+    table: &Table,
+    first: NalHeader,
+    extension: Option<NalHeaderExtension>,
+    header: &SliceHeader,
+    out: &mut [u8],
+) -> Result<usize, Refusal> {
+    let [b1, b2, b3] = extension.map_or([0; 3], NalHeaderExtension::to_bytes);
+    let given = ExtensionGiven {
+        there: extension.is_some(),
+        b1,
+        b2,
+        b3,
+    };
+    let record = header.to_raw(table)?;
+    let answer = raw::write_header(table.as_raw(), first.into(), given, record, out);
+    match answer.number {
+        0 => Ok(answer.bits),
+        number => Err(Refusal {
+            number,
+            value: answer.value,
+        }),
+    }
+}
