@@ -35,8 +35,8 @@ fn wrote_out(a: HeaderWrote) -> WroteOut
 }
 
 fn write_header_out<'a>(
-    sequences: &'a [u32; 320],
-    pictures: &'a [u32; 3328],
+    sequences: &'a [u32; 224],
+    pictures: &'a [u32; 2048],
     first: u8,
     extension: ExtensionGiven,
     header: SliceHeader,
