@@ -1,4 +1,5 @@
-//! Codes ue(v) read through the static library, against two plain Rust readers, on the same bytes in one run; then look-ups in the parameter table.
+//! Codes ue(v) read through the static library, against two plain Rust readers, on the same bytes in one run; then look-ups in the parameter table,
+//! units and walks.
 //! Best of several rounds, in nanoseconds of processor time a code; the ratio to the Rust that reads by windows comes first.
 
 use std::hint::black_box;
@@ -7,6 +8,7 @@ use crate::cpu::nanoseconds;
 
 mod cpu;
 mod sets;
+mod units;
 
 extern "C" {
     /// crates/exports: up to n codes from place 0 on, as count * 2^32 + sum.
@@ -178,6 +180,23 @@ fn main() {
     println!("worst ratio {worst:.2}, the bar is 1.30");
     let lookup = sets::lookup();
     println!("a look-up of a picture set: {lookup:.2} ns, the bar is 10");
+    for (name, unit) in [
+        ("a slice", &[0x65, 0x88, 0x84, 0xA0][..]),
+        ("a slice that is refused", &[0x65, 0x88, 0x84, 0x80]),
+        ("a unit of another type", &[0x09, 0xF0]),
+    ] {
+        println!(
+            "{name} of {} bytes: {:.0} ns",
+            unit.len(),
+            units::read(unit)
+        );
+    }
+    for (count, length) in [(100_000, 20), (20_000, 1_400), (200, 100_000)] {
+        let (speed, unit) = units::walk(count, length);
+        println!(
+            "a walk over {count} slices of {length} bytes: {speed:.2} GB/s, {unit:.0} ns a unit"
+        );
+    }
     if worst > 1.3 || lookup > 10.0 {
         std::process::exit(1);
     }

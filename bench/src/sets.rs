@@ -26,9 +26,19 @@ struct Picture {
 /// crates/table, `Table`.
 #[repr(C)]
 #[derive(Clone, Copy)]
-struct Table {
-    sequences: [u32; 224],
-    pictures: [u32; 2048],
+pub struct Table {
+    pub sequences: [u32; 224],
+    pub pictures: [u32; 2048],
+}
+
+impl Table {
+    /// No sets: all words are zero.
+    pub fn empty() -> Self {
+        Table {
+            sequences: [0; 224],
+            pictures: [0; 2048],
+        }
+    }
 }
 
 /// crates/exports, `PictureOut`.
@@ -96,10 +106,7 @@ fn picture(id: u32) -> Picture {
 
 /// Fills a table, holds each look-up to what was put, and gives the nanoseconds that a look-up takes, best of several rounds.
 pub fn lookup() -> f64 {
-    let mut table = Table {
-        sequences: [0; 224],
-        pictures: [0; 2048],
-    };
+    let mut table = Table::empty();
     for id in 0..256 {
         let at = id as usize * 8;
         table.pictures[at..at + 8].copy_from_slice(&picture(id).words());
