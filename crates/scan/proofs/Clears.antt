@@ -7,7 +7,7 @@ use native.Mathlib.Omega.{arith}
 use native.Mathlib.Nat.{add-zero, mod-eq-of-lt}
 use native.Mathlib.Decide.{decLt}
 use lib.Dec.{eqb, leb}
-use lib.Bits.{bitAnd, bitOr, bitXor, and-mask, xor-self}
+use lib.Bits.{bitAnd, bitOr, bitXor, and-mask, and-zero-r, xor-self}
 use borrow.Author.Tests.{eqb-true, leb-true}
 use lib.ListN.{length, getD, drop, length-drop}
 use Rattle.scan.specs.Scan.{hit, upto}
@@ -35,6 +35,13 @@ module _ (m f : ℕ) (s : List ℕ) (i : ℕ) where
     where
       last : Clear m f s (i + k) (i + (k + 1))
       last j a b p = let q : j ≡ i + k = omega arith in omega (arith, d (rw q at p))
+
+-- where no two zeros stand side by side, nothing begins
+pub clear-pairs : (m f : ℕ) (s : List ℕ) (i e : ℕ) → Clear 0 0 s i e → Clear m f s i e
+clear-pairs m f s i e c j a b p = c j a b (record { one = p .one; two = p .two; three = and-none (getD s (j + 2) 0) })
+  where
+    and-none : (x : ℕ) → bitXor (bitAnd x 0) 0 ≡ 0
+    and-none x = rw (and-zero-r x)
 
 -- ---- the first place of a block
 

@@ -35,6 +35,17 @@ fn is_clear(s: &[u8], i: usize, count: usize, mask: u8, flip: u8) -> bool
     0 < m
 }
 
+// The same by two tests: most blocks have no two zero bytes side by side, and a mask of 0 tests for these alone, at half the price.
+fn is_passed(s: &[u8], i: usize, count: usize, mask: u8, flip: u8) -> bool
+    requires { ⌜ i + count + 2 ≤ length (now s) ⌝ }
+    ensures { λ r. ⌜ (r ≡ true → Clear mask flip (now (s .entry)) i (i + count)) ⌝ }
+{
+    if is_clear(s, i, count, 0, 0) {
+        return true;
+    }
+    is_clear(s, i, count, mask, flip)
+}
+
 // `k` where `x` is 0, and else 128.
 fn place_of(x: u8, k: u8) -> u8
     requires { ⌜ k < 128 ⌝ }
@@ -67,7 +78,7 @@ fn pass_blocks(s: &[u8], from: usize, count: usize, mask: u8, flip: u8) -> usize
     let n = s.len();
     let mut i = from;
     while count + 2 <= n - i {
-        if is_clear(s, i, count, mask, flip) {
+        if is_passed(s, i, count, mask, flip) {
             i += count;
         } else {
             return i;

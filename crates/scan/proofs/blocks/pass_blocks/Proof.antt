@@ -22,8 +22,8 @@ add-loop c = search needs
 sub-loop : tie.Need-sub-loop Inv-loop μ-loop
 sub-loop c = search needs
 
-is-clear-requires : tie.Need-is-clear-requires Inv-loop μ-loop
-is-clear-requires c κs = search needs
+is-passed-requires : tie.Need-is-passed-requires Inv-loop μ-loop
+is-passed-requires c κs = search needs
 
 add-i : tie.Need-add-i Inv-loop μ-loop
 add-i c = search needs
@@ -37,7 +37,7 @@ loop-again c =
     let a = l .before .before .args in (
       omega arith,
       omega arith,
-      clear-join (a .mask) (a .flip) (a .s .now) (a .from) (l .loop .i) (l .loop .i + a .count) (l .loop .inv .2) (c .before .is-clear .ensures (c .if1 .taken)),
+      clear-join (a .mask) (a .flip) (a .s .now) (a .from) (l .loop .i) (l .loop .i + a .count) (l .loop .inv .2) (c .before .is-passed .ensures (c .if1 .taken)),
     )
 
 returns : tie.Need-returns Inv-loop μ-loop
@@ -55,7 +55,7 @@ pass-blocks-spec =
     loop-holds
     add-loop
     sub-loop
-    is-clear-requires
+    is-passed-requires
     add-i
     loop-less
     loop-again
