@@ -36,6 +36,9 @@ module _ (m f : ℕ) (s : List ℕ) (i : ℕ) where
       last : Clear m f s (i + k) (i + (k + 1))
       last j a b p = let q : j ≡ i + k = omega arith in omega (arith, d (rw q at p))
 
+pub clear-part : (m f : ℕ) (s : List ℕ) (i e i′ e′ : ℕ) → i ≤ i′ → e′ ≤ e → Clear m f s i e → Clear m f s i′ e′
+clear-part m f s i e i′ e′ a b c j x y p = c j (omega arith) (omega arith) p
+
 -- where no two zeros stand side by side, nothing begins
 pub clear-pairs : (m f : ℕ) (s : List ℕ) (i e : ℕ) → Clear 0 0 s i e → Clear m f s i e
 clear-pairs m f s i e c j a b p = c j a b (record { one = p .one; two = p .two; three = and-none (getD s (j + 2) 0) })

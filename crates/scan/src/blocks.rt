@@ -87,13 +87,30 @@ fn pass_blocks(s: &[u8], from: usize, count: usize, mask: u8, flip: u8) -> usize
     i
 }
 
-// The same within 128 bytes: the place itself, or near the end by blocks of 16.
+// The same for the last bytes: one block that reaches to the end, which most often is clear, and else blocks of 16.
+fn pass_end(s: &[u8], from: usize, mask: u8, flip: u8) -> usize
+    requires { ⌜ (from ≤ length (now s)) × (length (now s) < from + 130) ⌝ }
+    ensures { λ r. ⌜ (from ≤ r) × (r ≤ length (now (s .entry))) × Clear mask flip (now (s .entry)) from r ⌝ }
+{
+    let n = s.len();
+    if 130 <= n {
+        if is_passed(s, n - 130, 128, mask, flip) {
+            if from < n - 2 {
+                return n - 2;
+            }
+            return from;
+        }
+    }
+    pass_blocks(s, from, 16, mask, flip)
+}
+
+// The same within 128 bytes: the place itself, or near the end a place that is near it.
 fn pass_near(s: &[u8], from: usize, mask: u8, flip: u8) -> usize
     requires { ⌜ from ≤ length (now s) ⌝ }
     ensures { λ r. ⌜ (from ≤ r) × (r ≤ length (now (s .entry))) × Clear mask flip (now (s .entry)) from r ⌝ }
 {
     if s.len() - from < 130 {
-        return pass_blocks(s, from, 16, mask, flip);
+        return pass_end(s, from, mask, flip);
     }
     let m = first_of_128(s, from, mask, flip);
     from + m as usize
