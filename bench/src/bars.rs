@@ -38,7 +38,10 @@ impl Bars {
 
     /// Prints all of them; true where every bar holds.
     pub fn print(&self) -> bool {
-        println!("\nbars and goals\n{}", self.lines.join("\n"));
+        println!("\nbars and goals");
+        for line in &self.lines {
+            println!("{line}");
+        }
         if self.lines.is_empty() {
             println!("  none measured: the peers are not at hand, or the part has none");
         }

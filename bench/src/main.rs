@@ -25,6 +25,8 @@ mod sets;
 mod walks;
 mod writing;
 
+const PARTS: [&str; 6] = ["walk", "heads", "writing", "linear", "codes", "sets"];
+
 /// How much is measured.
 pub struct Measure {
     /// Bytes of a recording.
@@ -69,6 +71,10 @@ fn main() {
             "--quick" => quick = true,
             _ => only.extend(words.next()),
         }
+    }
+    if let Some(name) = only.iter().find(|name| !PARTS.contains(&name.as_str())) {
+        eprintln!("bench: there is no part {name}: {}", PARTS.join(", "));
+        std::process::exit(2);
     }
     let asked = |name: &str| only.is_empty() || only.iter().any(|o| o == name);
     let measure = if quick {
