@@ -1,203 +1,131 @@
-//! Codes ue(v) read through the static library, against two plain Rust readers, on the same bytes in one run; then look-ups in the parameter table,
-//! units and walks.
-//! Best of several rounds, in nanoseconds of processor time a code; the ratio to the Rust that reads by windows comes first.
+//! The benchmark: our walk, our header reading and writing against peers and against what the machine can do, on the same recordings in one process.
+//! Processor time, best of several rounds, contenders taking turns. It fails where contenders disagree on what they found, and where a bar does not hold.
+//!
+//!     bench FOLDER [--quick] [--only NAME]..
+//!
+//! FOLDER is where `run` puts recordings and peers.
 
-use std::hint::black_box;
+use std::path::{Path, PathBuf};
 
-use crate::cpu::nanoseconds;
+use crate::bars::Bars;
+use crate::peers::Peer;
+use crate::recording::Recording;
 
+mod bars;
+mod codes;
 mod cpu;
+mod heads;
+mod linear;
+mod ours;
+mod peers;
+mod race;
+mod random;
+mod recording;
 mod sets;
-mod units;
+mod walks;
+mod writing;
 
-extern "C" {
-    /// crates/exports: up to n codes from place 0 on, as count * 2^32 + sum.
-    fn tuz_ue_run(bytes: *const u8, len: usize, n: u32) -> u64;
+const PARTS: [&str; 6] = ["walk", "heads", "writing", "linear", "codes", "sets"];
+
+/// How much is measured.
+pub struct Measure {
+    /// Bytes of a recording.
+    pub size: usize,
+    pub rounds: u32,
+    /// The longest recording that linearity is measured on.
+    pub longest: usize,
 }
 
-fn library(bytes: &[u8], n: u32) -> u64 {
-    // SAFETY: the pointer and the length are those of a live slice, which the library only reads.
-    unsafe { tuz_ue_run(bytes.as_ptr(), bytes.len(), n) }
+/// The peers that are at hand.
+pub struct Peers {
+    /// Its builds, each with its name: as the oracle is built, and with the newest memchr.
+    pub h264_reader: Vec<(String, Peer)>,
+    pub gstreamer: Option<Peer>,
+    pub ffmpeg: Option<Peer>,
 }
 
-/// A code's value and the place after it; nothing where the bits ran out or 32 zeros stand there.
-type Code = Option<(u32, usize)>;
-
-/// 64 bits from a place on, zeros past the end.
-#[inline]
-fn window(bytes: &[u8], at: usize) -> u64 {
-    let k = at / 8;
-    let word = match bytes.get(k..k + 8) {
-        Some(eight) => u64::from_be_bytes(eight.try_into().unwrap()),
-        None => {
-            let mut eight = [0; 8];
-            for (to, from) in eight.iter_mut().zip(bytes.iter().skip(k)) {
-                *to = *from;
-            }
-            u64::from_be_bytes(eight)
-        }
-    };
-    word << (at % 8)
-}
-
-#[inline]
-fn by_windows(bytes: &[u8], at: usize) -> Code {
-    let end = bytes.len() * 8;
-    if end < at {
-        return None;
-    }
-    let w = window(bytes, at);
-    let zeros = ((w >> 32) as u32).leading_zeros() as usize;
-    let size = 2 * zeros + 1;
-    if zeros == 32 || end - at < size {
-        return None;
-    }
-    let value = if zeros < 29 {
-        (w >> (63 - 2 * zeros)) - 1
-    } else {
-        (window(bytes, at + zeros) >> (63 - zeros)) - 1
-    };
-    Some((value as u32, at + size))
-}
-
-fn bit(bytes: &[u8], i: usize) -> Option<u32> {
-    bytes.get(i / 8).map(|b| u32::from(b >> (7 - i % 8)) & 1)
-}
-
-fn by_bits(bytes: &[u8], at: usize) -> Code {
-    let mut zeros = 0;
-    while bit(bytes, at + zeros)? == 0 {
-        zeros += 1;
-        if zeros == 32 {
-            return None;
+fn peer(folder: &Path, name: &str, title: &str) -> Option<Peer> {
+    match Peer::load(&folder.join("peers"), name) {
+        Ok(peer) => Some(peer),
+        Err(why) => {
+            println!("{title}: skipped ({why})");
+            None
         }
     }
-    let mut value = 1u64;
-    for j in 0..zeros {
-        value = value * 2 + u64::from(bit(bytes, at + zeros + 1 + j)?);
-    }
-    Some(((value - 1) as u32, at + 2 * zeros + 1))
 }
 
-fn run(bytes: &[u8], n: u32, code: impl Fn(&[u8], usize) -> Code) -> u64 {
-    let (mut at, mut sum, mut count) = (0, 0u32, 0u32);
-    while count < n {
-        let Some((value, next)) = code(bytes, at) else {
-            break;
-        };
-        sum = sum.wrapping_add(value);
-        at = next;
-        count += 1;
-    }
-    (u64::from(count) << 32) + u64::from(sum)
-}
-
-/// An xorshift: the same numbers in each run.
-struct Random(u64);
-
-impl Random {
-    fn next(&mut self) -> u64 {
-        self.0 ^= self.0 << 13;
-        self.0 ^= self.0 >> 7;
-        self.0 ^= self.0 << 17;
-        self.0
-    }
-}
-
-/// The codes of n values below `top`, one after the other.
-fn codes(random: &mut Random, n: u32, top: u64) -> Vec<u8> {
-    let (mut bytes, mut at) = (Vec::new(), 0);
-    for _ in 0..n {
-        let x = random.next() % top + 1;
-        let size = 2 * (63 - x.leading_zeros()) + 1;
-        for j in (0..size).rev() {
-            if at % 8 == 0 {
-                bytes.push(0);
-            }
-            *bytes.last_mut().unwrap() |= ((x >> j & 1) as u8) << (7 - at % 8);
-            at += 1;
-        }
-    }
-    bytes
-}
-
-/// Short bodies of every kind, where the three readers must agree to the last bit.
-fn agree(random: &mut Random) -> u64 {
-    let mut count = 0;
-    for len in 0..40 {
-        for round in 0..400 {
-            let body: Vec<u8> = (0..len)
-                .map(|_| {
-                    let x = random.next();
-                    match round % 3 {
-                        0 => x as u8,
-                        1 if x % 5 == 0 => (x >> 8) as u8,
-                        1 => 0,
-                        _ => 1u8.checked_shl((x % 9) as u32).unwrap_or(0),
-                    }
-                })
-                .collect();
-            for n in [0, 1, 2, u32::MAX] {
-                let want = run(&body, n, by_bits);
-                assert_eq!(library(&body, n), want, "{body:?} {n}");
-                assert_eq!(run(&body, n, by_windows), want, "{body:?} {n}");
-                count += 1;
-            }
-        }
-    }
-    count
-}
-
-fn best(n: u32, want: u64, f: impl Fn() -> u64) -> f64 {
-    let mut best = f64::MAX;
-    for _ in 0..25 {
-        let start = nanoseconds();
-        let got = black_box(f());
-        best = best.min((nanoseconds() - start) / f64::from(n));
-        assert_eq!(got, want);
-    }
-    best
+/// A recording by x264, or one that is generated.
+fn recording(folder: &Path, name: &'static str, length: usize) -> Recording {
+    Recording::load(&folder.join("recordings"), name).unwrap_or_else(|| {
+        println!("{name}: no recording by x264 at hand, generated instead: one header, random bytes without a zero");
+        Recording::generated(name, length)
+    })
 }
 
 fn main() {
-    let mut random = Random(88172645463325252);
-    println!("agree on {} bodies", agree(&mut random));
-    let n = 200_000;
-    let mut worst = 0f64;
-    for (name, top) in [
-        ("values 0 to 7", 8),
-        ("values 0 to 63", 64),
-        ("values to 2^31", 1 << 31),
-    ] {
-        let bytes = codes(&mut random, n, top);
-        let want = run(&bytes, n, by_bits);
-        let ours = best(n, want, || library(black_box(&bytes), n));
-        let windows = best(n, want, || run(black_box(&bytes), n, by_windows));
-        let bits = best(n, want, || run(black_box(&bytes), n, by_bits));
-        worst = worst.max(ours / windows);
-        println!("{name:15} {:.2} of Rust by windows: library {ours:.2} ns a code, Rust by windows {windows:.2}, Rust by bits {bits:.2}", ours / windows);
+    let mut words = std::env::args().skip(1);
+    let folder = PathBuf::from(words.next().expect("bench/run starts this program"));
+    let (mut quick, mut only) = (false, Vec::new());
+    while let Some(word) = words.next() {
+        match word.as_str() {
+            "--quick" => quick = true,
+            _ => only.extend(words.next()),
+        }
     }
-    println!("worst ratio {worst:.2}, the bar is 1.30");
-    let lookup = sets::lookup();
-    println!("a look-up of a picture set: {lookup:.2} ns, the bar is 10");
-    for (name, unit) in [
-        ("a slice", &[0x65, 0x88, 0x84, 0xA0][..]),
-        ("a slice that is refused", &[0x65, 0x88, 0x84, 0x80]),
-        ("a unit of another type", &[0x09, 0xF0]),
-    ] {
-        println!(
-            "{name} of {} bytes: {:.0} ns",
-            unit.len(),
-            units::read(unit)
-        );
+    if let Some(name) = only.iter().find(|name| !PARTS.contains(&name.as_str())) {
+        eprintln!("bench: there is no part {name}: {}", PARTS.join(", "));
+        std::process::exit(2);
     }
-    for (count, length) in [(100_000, 20), (20_000, 1_400), (200, 100_000)] {
-        let (speed, unit) = units::walk(count, length);
-        println!(
-            "a walk over {count} slices of {length} bytes: {speed:.2} GB/s, {unit:.0} ns a unit"
-        );
+    let asked = |name: &str| only.is_empty() || only.iter().any(|o| o == name);
+    let measure = if quick {
+        Measure {
+            size: 8_000_000,
+            rounds: 5,
+            longest: 16_000_000,
+        }
+    } else {
+        Measure {
+            size: 64_000_000,
+            rounds: 11,
+            longest: 256_000_000,
+        }
+    };
+    let peers = Peers {
+        h264_reader: ["h264-reader", "h264-reader+"]
+            .into_iter()
+            .filter_map(|name| Some((name.to_string(), peer(&folder, name, name)?)))
+            .collect(),
+        gstreamer: peer(&folder, "gstreamer", "GStreamer"),
+        ffmpeg: peer(&folder, "ffmpeg", "ffmpeg's h264_metadata"),
+    };
+    let small = recording(&folder, "small", 1_400);
+    let large = recording(&folder, "large", 100_000);
+    let tiny = recording(&folder, "tiny", 20);
+    let mut bars = Bars::default();
+    if asked("walk") {
+        for made in [&small, &large, &small.zero_heavy(), &tiny] {
+            walks::measure(made, &peers, &measure, &mut bars);
+        }
     }
-    if worst > 1.3 || lookup > 10.0 {
-        std::process::exit(1);
+    if asked("heads") {
+        for made in [&small, &tiny] {
+            heads::measure(made, &peers, &measure, &mut bars);
+        }
     }
+    if asked("writing") {
+        writing::headers(&small, &measure);
+        writing::recording(&tiny, &peers, &measure);
+    }
+    if asked("linear") {
+        for made in [&small, &large] {
+            linear::measure(made, &measure, &mut bars);
+        }
+    }
+    if asked("codes") {
+        bars.at_most("codes, of plain Rust by windows", codes::measure(), 1.3);
+    }
+    if asked("sets") {
+        bars.at_most("a look-up of a picture set, ns", sets::lookup(), 10.0);
+    }
+    std::process::exit(if bars.print() { 0 } else { 1 });
 }

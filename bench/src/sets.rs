@@ -3,50 +3,9 @@
 use std::hint::black_box;
 use std::mem::MaybeUninit;
 
+use tuzmarghil::raw::{Picture, PictureOut, Table};
+
 use crate::cpu::nanoseconds;
-
-/// crates/table, `Picture`.
-#[repr(C)]
-#[derive(Clone, Copy, Default, PartialEq, Debug)]
-struct Picture {
-    seq_parameter_set_id: u32,
-    entropy_coding_mode_flag: bool,
-    bottom_field_pic_order_in_frame_present_flag: bool,
-    num_ref_idx_l0_default_active_minus1: u32,
-    num_ref_idx_l1_default_active_minus1: u32,
-    weighted_pred_flag: bool,
-    weighted_bipred_idc: u32,
-    pic_init_qp_minus26: i32,
-    pic_init_qs_minus26: i32,
-    deblocking_filter_control_present_flag: bool,
-    redundant_pic_cnt_present_flag: bool,
-    slice_group_change_rate: u32,
-}
-
-/// crates/table, `Table`.
-#[repr(C)]
-#[derive(Clone, Copy)]
-pub struct Table {
-    pub sequences: [u32; 224],
-    pub pictures: [u32; 2048],
-}
-
-impl Table {
-    /// No sets: all words are zero.
-    pub fn empty() -> Self {
-        Table {
-            sequences: [0; 224],
-            pictures: [0; 2048],
-        }
-    }
-}
-
-/// crates/exports, `PictureOut`.
-#[repr(C)]
-struct PictureOut {
-    there: bool,
-    picture: Picture,
-}
 
 extern "C" {
     /// A struct result goes through a pointer that stands first, on x86-64 by the C convention; written out, the call is the same on other machines (native-archive).
@@ -61,29 +20,27 @@ fn picture_at<'a>(table: &Table, id: u32, out: &'a mut MaybeUninit<PictureOut>) 
     }
 }
 
-impl Picture {
-    /// The words of an entry, as crates/table/specs/Tables.antt, `pictureWords`, has them.
-    fn words(&self) -> [u32; 8] {
-        let flags = [
-            self.entropy_coding_mode_flag,
-            self.bottom_field_pic_order_in_frame_present_flag,
-            self.weighted_pred_flag,
-            self.deblocking_filter_control_present_flag,
-            self.redundant_pic_cnt_present_flag,
-        ];
-        [
-            flags
-                .iter()
-                .fold(1, |word, &flag| word * 2 + u32::from(flag)),
-            self.seq_parameter_set_id,
-            self.num_ref_idx_l0_default_active_minus1,
-            self.num_ref_idx_l1_default_active_minus1,
-            self.weighted_bipred_idc,
-            (self.pic_init_qp_minus26 + 62) as u32,
-            (self.pic_init_qs_minus26 + 26) as u32,
-            self.slice_group_change_rate,
-        ]
-    }
+/// The words of an entry, as crates/table/specs/Tables.antt, `pictureWords`, has them.
+fn words(set: &Picture) -> [u32; 8] {
+    let flags = [
+        set.entropy_coding_mode_flag,
+        set.bottom_field_pic_order_in_frame_present_flag,
+        set.weighted_pred_flag,
+        set.deblocking_filter_control_present_flag,
+        set.redundant_pic_cnt_present_flag,
+    ];
+    [
+        flags
+            .iter()
+            .fold(1, |word, &flag| word * 2 + u32::from(flag)),
+        set.seq_parameter_set_id,
+        set.num_ref_idx_l0_default_active_minus1,
+        set.num_ref_idx_l1_default_active_minus1,
+        set.weighted_bipred_idc,
+        (set.pic_init_qp_minus26 + 62) as u32,
+        (set.pic_init_qs_minus26 + 26) as u32,
+        set.slice_group_change_rate,
+    ]
 }
 
 /// The set that is put at an id: every field another.
@@ -106,10 +63,10 @@ fn picture(id: u32) -> Picture {
 
 /// Fills a table, holds each look-up to what was put, and gives the nanoseconds that a look-up takes, best of several rounds.
 pub fn lookup() -> f64 {
-    let mut table = Table::empty();
+    let mut table = Table::default();
     for id in 0..256 {
         let at = id as usize * 8;
-        table.pictures[at..at + 8].copy_from_slice(&picture(id).words());
+        table.pictures[at..at + 8].copy_from_slice(&words(&picture(id)));
     }
     let mut out = MaybeUninit::uninit();
     for id in 0..260 {

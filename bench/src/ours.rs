@@ -1,0 +1,193 @@
+//! The proved library, through the raw calls of rust/tuzmarghil.
+
+use tuzmarghil::raw::{self, ExtensionGiven, ReadOut, SliceHeader, WalkOut};
+use tuzmarghil::Table;
+
+use crate::peers::Found;
+
+const SLICE: u32 = 1;
+const A_UNIT: u32 = 1;
+const NO_EXTENSION: ExtensionGiven = ExtensionGiven {
+    there: false,
+    b1: 0,
+    b2: 0,
+    b3: 0,
+};
+
+fn take(found: &mut Found, read: &ReadOut) {
+    if read.answer == SLICE {
+        let h = &read.header;
+        found.slice(
+            h.first_mb_in_slice,
+            h.frame.frame_num,
+            h.quantiser.slice_qp_delta,
+        );
+    }
+}
+
+/// Every unit of a recording, its header read and its body unescaped into scratch. `each` sees a unit's place and length, what was read, and scratch.
+fn steps(
+    table: &Table,
+    recording: &[u8],
+    scratch: &mut [u8],
+    mut each: impl FnMut(usize, usize, &ReadOut, &[u8]),
+) {
+    let (mut out, mut from) = (WalkOut::default(), 0);
+    loop {
+        raw::walk(table.as_raw(), recording, from, scratch, &mut out);
+        if out.step != A_UNIT {
+            return;
+        }
+        each(out.place, out.length, &out.read, scratch);
+        from = out.next;
+    }
+}
+
+/// The walk as document 01 has it.
+pub fn walk<'a>(
+    table: &'a Table,
+    recording: &'a [u8],
+    longest: usize,
+) -> impl FnMut() -> Found + 'a {
+    let mut scratch = vec![0; longest];
+    move || {
+        let mut found = Found::default();
+        steps(table, recording, &mut scratch, |_, length, read, _| {
+            found.units += 1;
+            found.lengths += length as u64;
+            take(&mut found, read);
+        });
+        found
+    }
+}
+
+/// The sum of the lengths of the slices' bodies, each body compared with what a plain loop makes of the unit; every unit compared with where a plain search found it.
+pub fn compared(table: &Table, recording: &[u8], units: &[(usize, usize)]) -> u64 {
+    let longest = units.iter().map(|u| u.1).max().unwrap_or(0);
+    let (mut at, mut bodies, mut scratch) = (0, 0, vec![0; longest]);
+    steps(
+        table,
+        recording,
+        &mut scratch,
+        |place, length, read, scratch| {
+            assert_eq!((place, length), units[at], "unit {at} lies elsewhere");
+            at += 1;
+            if read.answer == SLICE {
+                let mut body = Vec::with_capacity(length);
+                let mut zeros = 0;
+                for &byte in &recording[place + 1..place + length] {
+                    if zeros >= 2 && byte == 3 {
+                        zeros = 0;
+                        continue;
+                    }
+                    zeros = if byte == 0 { zeros + 1 } else { 0 };
+                    body.push(byte);
+                }
+                assert_eq!(scratch[..body.len()], body, "the body of unit {at}");
+                bodies += body.len() as u64;
+            }
+        },
+    );
+    assert_eq!(at, units.len(), "units are missing");
+    bodies
+}
+
+/// Slice headers alone, from units whose ends are known.
+pub fn heads<'a>(table: &'a Table, units: &'a [&'a [u8]]) -> impl FnMut() -> Found + 'a {
+    let mut scratch = vec![0; units.iter().map(|u| u.len()).max().unwrap_or(0)];
+    let mut out = ReadOut::default();
+    move || {
+        let mut found = Found::default();
+        for unit in units {
+            raw::read_unit(table.as_raw(), unit, &mut scratch, &mut out);
+            found.units += 1;
+            found.lengths += unit.len() as u64;
+            take(&mut found, &out);
+        }
+        found
+    }
+}
+
+/// A header that was read, to be written: its unit's first byte, the record, how many bits it had.
+pub struct Header {
+    first: u8,
+    record: SliceHeader,
+    bits: usize,
+}
+
+/// The headers of units, each held to be written back as it was read.
+pub fn headers(table: &Table, units: &[&[u8]]) -> Vec<Header> {
+    let mut out = ReadOut::default();
+    let mut buffer = [0; 256];
+    let mut scratch = vec![0; units.iter().map(|u| u.len()).max().unwrap_or(0)];
+    let mut headers = Vec::new();
+    for unit in units {
+        raw::read_unit(table.as_raw(), unit, &mut scratch, &mut out);
+        assert_eq!(out.answer, SLICE, "a unit that is no good slice");
+        let wrote = raw::write_header(
+            table.as_raw(),
+            unit[0],
+            NO_EXTENSION,
+            out.header,
+            &mut buffer,
+        );
+        assert_eq!((wrote.number, wrote.bits), (0, out.bits));
+        let (whole, spare) = (out.bits / 8, out.bits % 8);
+        assert_eq!(buffer[..whole], scratch[..whole]);
+        assert!(spare == 0 || (buffer[whole] ^ scratch[whole]) >> (8 - spare) == 0);
+        headers.push(Header {
+            first: unit[0],
+            record: out.header,
+            bits: out.bits,
+        });
+    }
+    headers
+}
+
+/// Headers written; gives how many bits they have.
+pub fn write<'a>(table: &'a Table, headers: &'a [Header]) -> impl FnMut() -> usize + 'a {
+    let mut buffer = [0; 256];
+    move || {
+        let mut bits = 0;
+        for h in headers {
+            let wrote =
+                raw::write_header(table.as_raw(), h.first, NO_EXTENSION, h.record, &mut buffer);
+            bits += wrote.bits;
+        }
+        bits
+    }
+}
+
+/// How many bits headers have.
+pub fn bits(headers: &[Header]) -> usize {
+    headers.iter().map(|h| h.bits).sum()
+}
+
+/// A walk in which every slice's header is written again; gives the bits that were written beside what was found.
+pub fn rewrite<'a>(
+    table: &'a Table,
+    recording: &'a [u8],
+    longest: usize,
+) -> impl FnMut() -> (Found, usize) + 'a {
+    let (mut scratch, mut buffer) = (vec![0; longest], [0; 256]);
+    move || {
+        let (mut found, mut bits) = (Found::default(), 0);
+        steps(table, recording, &mut scratch, |place, length, read, _| {
+            found.units += 1;
+            found.lengths += length as u64;
+            take(&mut found, read);
+            if read.answer == SLICE {
+                let first = recording[place];
+                let wrote = raw::write_header(
+                    table.as_raw(),
+                    first,
+                    NO_EXTENSION,
+                    read.header,
+                    &mut buffer,
+                );
+                bits += wrote.bits;
+            }
+        });
+        (found, bits)
+    }
+}
