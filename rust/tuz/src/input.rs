@@ -7,7 +7,7 @@ use indicatif::{ProgressBar, ProgressStyle};
 use std::fs::{self, File};
 use std::io::{self, BufRead, BufReader, Cursor, ErrorKind, Read};
 use std::path::{Path, PathBuf};
-use tuzmarghil::{Stream, StreamReport, Table};
+use tuzmarghil::{Stream, StreamReport, Table, LIMIT};
 
 /// The sample sets of document 01, both with id 0.
 const SAMPLE: &str = "sps:0:1:0:0:4:2:0:0:1:99 pps:0:0:0:0:0:0:0:0:0:0:0:0:0";
@@ -50,6 +50,12 @@ impl Clip {
         };
         let mut text = String::new();
         let read = open(path)?.read_to_string(&mut text);
+        if matches!(&read, Err(e) if e.kind() == ErrorKind::InvalidData) {
+            bail!(
+                "{}: is no table, which is a text of words such as sps:0:1:0:0:4:2:0:0:1:99",
+                name(path)
+            );
+        }
         read.with_context(|| name(path))?;
         let mut table = Table::new();
         let lines = text.lines().map(|l| l.split('#').next().unwrap_or(""));
@@ -126,7 +132,8 @@ fn no_start_code(front: &[u8]) -> String {
         return told + ". It is an MP4 file, in which units stand behind lengths: `ffmpeg -i FILE -c copy -bsf:v h264_mp4toannexb OUT.264` takes the stream out";
     }
     let framed = length(0).map_or(false, |n| {
-        n > 0 && (n + 4 == front.len() || length(n + 4).map_or(n + 4 > front.len(), |m| m > 0))
+        (1..=LIMIT).contains(&n)
+            && (n + 4 == front.len() || length(n + 4).map_or(n + 4 > front.len(), |m| m > 0))
     });
     let guess = if framed {
         ". Its first bytes look like a length: units may stand behind lengths (MP4, AVCC framing)"
