@@ -98,6 +98,77 @@ fn every_field_in_three_formats() {
     assert_eq!((rows.len(), &rows[0][at.unwrap()]), (2, "17"));
 }
 
+/// A field of JSON as text has it.
+fn text_of(json: &serde_json::Value) -> String {
+    use serde_json::Value::*;
+    let joined = |list: &[serde_json::Value], with| {
+        let list: Vec<_> = list.iter().map(text_of).collect();
+        list.join(with)
+    };
+    match json {
+        Null => "-".into(),
+        Bool(b) => u8::from(*b).to_string(),
+        Number(n) => n.to_string(),
+        String(s) => s.clone(),
+        Array(list) if list.is_empty() => "-".into(),
+        Array(list) if list[0].is_number() => joined(list, ":"),
+        Array(list) => joined(list, ","),
+        Object(weights) => match weights.get("chroma") {
+            None => text_of(&weights["luma"]),
+            Some(chroma) => text_of(&weights["luma"]) + "/" + &text_of(chroma),
+        },
+    }
+}
+
+/// The three formats of a clip with lists, weights and marking operations say the same, field by field.
+#[test]
+fn three_formats_say_the_same() {
+    let clips = Path::new(env!("CARGO_MANIFEST_DIR")).join("../../tests/clips");
+    let (clip, table) = (clips.join("comet.264"), clips.join("comet.table"));
+    let words = ["headers", word(&clip), "--table", word(&table), "--format"];
+    let of = |format| out(&tuz(&[&words[..], &[format]].concat(), &[]));
+    let (text, json, csv) = (of("text"), of("json"), of("csv"));
+    let mut rows = csv::Reader::from_reader(csv.as_bytes());
+    let columns = rows.headers().unwrap().clone();
+    let rows: Vec<_> = rows.records().map(Result::unwrap).collect();
+    assert_eq!((text.lines().count(), rows.len()), (247, 247));
+    assert_eq!(json.lines().count(), 247);
+    let mut met = vec![];
+    for ((text, json), row) in text.lines().zip(json.lines()).zip(&rows) {
+        let json: serde_json::Map<_, _> = serde_json::from_str(json).unwrap();
+        let fields = text.split(' ').filter_map(|word| word.split_once('='));
+        let mut fields: Vec<_> = fields.collect();
+        met.extend(fields.iter().map(|(name, text)| (*name, *text)));
+        fields.push(("answer", text.split(' ').nth(3).unwrap()));
+        assert_eq!(json.len(), fields.len());
+        assert_eq!(
+            row.iter().filter(|cell| !cell.is_empty()).count(),
+            fields.len()
+        );
+        for (name, text) in fields {
+            let column = columns.iter().position(|n| n == name).unwrap();
+            assert_eq!(
+                (text_of(&json[name]).as_str(), &row[column]),
+                (text, text),
+                "{name}"
+            );
+        }
+    }
+    // the clip has what makes the formats differ
+    for (name, part) in [
+        ("weights_l0", ":"),
+        ("weights_l0", "/"),
+        ("mods_l0", ","),
+        ("mmco", ":"),
+    ] {
+        assert!(
+            met.iter()
+                .any(|(n, text)| *n == name && text.contains(part)),
+            "{name}"
+        );
+    }
+}
+
 #[test]
 fn words_of_a_case_are_looked_at() {
     for (case, told) in [
