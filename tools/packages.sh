@@ -30,8 +30,11 @@ need() {
   fi
   echo "installing Debian packages:$missing" >&2
   local options="-qq -o Acquire::Retries=2 -o Acquire::http::Timeout=30 -o DPkg::Lock::Timeout=300"
+  # lists that are there already may do
   # shellcheck disable=SC2086
-  if ! $by apt-get $options update >&2 || ! $by env DEBIAN_FRONTEND=noninteractive apt-get $options install -y --no-install-recommends $missing >&2; then
+  $by apt-get $options update >&2 || true
+  # shellcheck disable=SC2086
+  if ! $by env DEBIAN_FRONTEND=noninteractive apt-get $options install -y --no-install-recommends $missing >&2; then
     why="$why; apt-get could not install them"
     return 1
   fi

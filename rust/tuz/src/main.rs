@@ -23,6 +23,7 @@ use totals::Totals;
 #[derive(Parser)]
 #[command(
     name = "tuz",
+    bin_name = "tuz",
     version,
     after_help = "\
 Examples:
