@@ -68,7 +68,7 @@ impl Clip {
         Ok(table)
     }
 
-    /// Hands each unit of the recording to `each`, with a bar on a terminal where the recording is long.
+    /// Hands each unit of the recording to `each`, with a bar on a terminal where the recording is long and the lines go elsewhere.
     pub fn units(
         &self,
         table: &Table,
@@ -78,6 +78,8 @@ impl Clip {
         let length = fs::metadata(&self.clip).map_or(0, |m| m.len());
         let bar = match length {
             0..=LONG => ProgressBar::hidden(),
+            // the lines themselves show it
+            _ if console::user_attended() => ProgressBar::hidden(),
             _ => {
                 let form = "{bar:40} {bytes}/{total_bytes} {bytes_per_sec} {eta}";
                 ProgressBar::new(length).with_style(ProgressStyle::with_template(form)?)

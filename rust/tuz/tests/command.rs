@@ -199,14 +199,17 @@ fn what_cannot_be_read_is_named() {
     let (folder, missing) = (env!("CARGO_TARGET_TMPDIR"), "/nowhere/clip.264");
     let lengths = file("lengths", &[0, 0, 0, 4, 0x65, 0x88, 0x84, 0xA0]);
     let movie = file("movie.mp4", b"\0\0\0\x20ftypisom\0\0\x02\0");
+    // a file that opens, but whose first read fails: no memory is at address 0
+    let unreadable = "/proc/self/mem";
+    let why = fs::read(unreadable).unwrap_err();
+    let failed = format!("{unreadable}: {why}");
     let letter = file("letter.txt", &b"Clear sky since nine. ".repeat(100_000));
     for (path, told) in [
         (missing, "/nowhere/clip.264: there is no such file"),
         (folder, "is a directory"),
         (word(&file("empty.264", &[])), "empty.264: is empty"),
         ("-", "standard input: is empty"),
-        // a file that opens, but whose first read fails: no memory is at address 0
-        ("/proc/self/mem", "/proc/self/mem: Input/output error"),
+        (unreadable, &failed),
         (
             word(&lengths),
             "lengths: no start code (00 00 01) in its first 8 bytes",
