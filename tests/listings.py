@@ -1,12 +1,14 @@
 #!/usr/bin/env python3
-"""Runs the program `listing` on torn recordings and compares what it prints with what a model in plain Python works out, with no line of the library.
+"""Runs the program `listing` on torn recordings and compares what it prints with the output kept in tests/listings.
 
-listings.py           holds each tests/listings/NAME.txt to the model, and the program's output on NAME.hex to it; then larger recordings, which are not kept as
-                      files, a slow pipe, and a read and a write that fail
-listings.py --write   writes the files
+listings.py           holds what the program prints on each recording to NAME.txt (NAME.txt.gz where it is long), and that to document 01's model in Python; then
+                      a slow pipe, and a read and a write that fail
+listings.py --write   writes the files, by the model: look at what changed
+NAME.hex is the recording; those over 4,096 bytes are made here each time, from a seed.
 The program is target/bin/listing; where it is missing or older than its crates, `rt check listing` makes it. The kit's loader runs it, as `rt check` does, and on
 another processor than x86-64 the kit's emulator.
 """
+import gzip
 import os
 import pathlib
 import platform
@@ -16,166 +18,23 @@ import subprocess
 import sys
 import time
 
+import document01
 from model import CRATES
 
 ROOT = CRATES.parent
 HERE = ROOT / "tests/listings"
 MOST = 65536
+# recordings up to this many bytes are kept as files
+SHORT = 4096
 
-# ---- the model: document 01 with the sample sets
-
-
-class Refused(Exception):
-    """A refusal: its number and its value."""
-
-
-class Bits:
-    def __init__(self, data):
-        self.bits, self.at = "".join(f"{b:08b}" for b in data), 0
-
-    def u(self, n):
-        if self.at + n > len(self.bits):
-            raise Refused(5, 0)
-        self.at += n
-        return int(self.bits[self.at - n : self.at] or "0", 2)
-
-    def ue(self):
-        left = self.bits[self.at :]
-        if left.startswith("0" * 32):
-            raise Refused(6, 0)
-        zeros = len(left) - len(left.lstrip("0"))
-        if zeros == len(left):
-            raise Refused(5, 0)
-        self.u(zeros)
-        return self.u(zeros + 1) - 1
-
-    def se(self):
-        k = self.ue()
-        return (k + 1) // 2 if k % 2 else -(k // 2)
-
-
-def body(unit):
-    out, zeros = bytearray(), 0
-    for b in unit:
-        if zeros >= 2 and b == 3:
-            zeros = 0
-            continue
-        out.append(b)
-        zeros = zeros + 1 if b == 0 else 0
-    return out
-
-
-def operations(bits, closing, greatest, number, operands):
-    count = 0
-    while True:
-        code = bits.ue()
-        if code > greatest:
-            raise Refused(number, code)
-        if code == closing:
-            return
-        if count == 66:
-            raise Refused(14, 0)
-        count += 1
-        for _ in range(operands(code)):
-            bits.ue()
-
-
-def slice_header(data, nal_ref_idc, idr, mvc, svc):
-    """slice_type, frame_num and QP of a header read with the sample sets."""
-    bits = Bits(data)
-    bits.ue()
-    slice_type = bits.ue()
-    if slice_type > 9:
-        raise Refused(7, slice_type)
-    picture_set = bits.ue()
-    if picture_set > 255:
-        raise Refused(8, picture_set)
-    if picture_set != 0:
-        raise Refused(9, picture_set)
-    kind = "P B I SP SI".split()[slice_type % 5]
-    frame_num = bits.u(4)
-    if idr:
-        bits.ue()
-    if kind == "B":
-        bits.u(1)
-    if kind in ("P", "SP", "B") and bits.u(1):
-        for _ in range(2 if kind == "B" else 1):
-            active = bits.ue()
-            if active > 31:
-                raise Refused(21, active)
-    if svc:
-        raise Refused(13, 0)
-    for _ in range({"B": 2, "P": 1, "SP": 1}.get(kind, 0)):
-        if bits.u(1):
-            operations(bits, 3, 5 if mvc else 3, 12, lambda code: 1)
-    if nal_ref_idc:
-        if idr:
-            bits.u(1), bits.u(1)
-        elif bits.u(1):
-            operations(bits, 0, 6, 15, lambda code: {3: 2, 5: 0}.get(code, 1))
-    delta = bits.se()
-    if not 0 <= 26 + delta <= 51:
-        raise Refused(16, delta)
-    if kind == "SP":
-        bits.u(1)
-    if kind in ("SP", "SI"):
-        qs = bits.se()
-        if not 0 <= 26 + qs <= 51:
-            raise Refused(17, qs)
-    if "1" not in bits.bits[bits.at + 1 :]:
-        raise Refused(22, 0)
-    return slice_type, frame_num, 26 + delta
-
-
-def prefix(data):
-    bits = Bits(data)
-    if bits.u(1):
-        operations(bits, 0, 2, 23, lambda code: 1)
-    bits.u(1)
-
-
-def said(unit):
-    """What a line says of a unit after its place and length."""
-    try:
-        if not unit:
-            raise Refused(1, 0)
-        if unit[0] & 0x80:
-            raise Refused(2, 0)
-        nal_ref_idc, kind = unit[0] >> 5, unit[0] & 31
-        if kind not in (1, 5, 14, 20, 21):
-            return f"other type={kind}"
-        if kind in (1, 5):
-            header = slice_header(body(unit[1:]), nal_ref_idc, kind == 5, False, False)
-        elif len(unit) < 4:
-            raise Refused(4, 0)
-        else:
-            svc = unit[1] >= 0x80
-            if kind == 14:
-                if svc and nal_ref_idc:
-                    prefix(body(unit[4:]))
-                return f"prefix ext={'svc' if svc else 'mvc'}"
-            header = slice_header(body(unit[4:]), nal_ref_idc, not svc and not unit[1] & 0x40, not svc, svc)
-        return "slice type={} frame={} qp={}".format(*header)
-    except Refused as r:
-        return "refused {} value={}".format(*r.args)
-
-
-def units(s):
-    """The place and the bytes of each unit: one for each start code."""
-    at = s.find(b"\0\0\1")
-    while at >= 0:
-        place = at + 3
-        ends = [e for e in (s.find(b"\0\0\0", place), s.find(b"\0\0\1", place)) if e >= 0]
-        yield place, s[place : min(ends)] if ends else s[place:].rstrip(b"\0")
-        at = s.find(b"\0\0\1", place)
+TABLE = document01.table_of(document01.SAMPLE.split())
 
 
 def listing(s):
+    """What document 01 says is printed."""
     if len(s) > MOST:
         return "end too long\n"
-    lines = [f"unit place={place} length={len(unit)} {said(unit)}" for place, unit in units(s)]
-    lines.append(f"end units={len(lines)} refused={sum(' refused ' in line for line in lines)}")
-    return "\n".join(lines) + "\n"
+    return "".join(line + "\n" for line in document01.listing(TABLE, s))
 
 
 # ---- the recordings
@@ -302,24 +161,38 @@ def slow(program, s):
     return out, err
 
 
+def kept(name, s):
+    """Where the expected output of a recording is kept."""
+    return HERE / (f"{name}.txt" if len(s) <= SHORT else f"{name}.txt.gz")
+
+
+def write(name, s):
+    text = listing(s).encode()
+    if len(s) <= SHORT:
+        (HERE / f"{name}.hex").write_text(s.hex(" ", 1) + "\n")
+        kept(name, s).write_bytes(text)
+    else:
+        kept(name, s).write_bytes(gzip.compress(text, mtime=0))
+
+
+def expected(name, s):
+    data = kept(name, s).read_bytes()
+    return (gzip.decompress(data) if len(s) > SHORT else data).decode()
+
+
 def main():
     faults, count = [], 0
     cases = dict(recordings())
-    for name, s in cases.items():
-        if len(s) > 4096:
-            continue
-        kept, text = HERE / f"{name}.hex", HERE / f"{name}.txt"
-        if "--write" in sys.argv:
-            HERE.mkdir(exist_ok=True)
-            kept.write_text(s.hex(" ", 1) + "\n")
-            text.write_text(listing(s))
-            continue
-        if bytes.fromhex(kept.read_text()) != s:
-            faults.append(f"{name}: {kept.name} is not the recording that is made here")
-        if text.read_text() != listing(s):
-            faults.append(f"{name}: {text.name} is not what the model says")
     if "--write" in sys.argv:
+        for name, s in cases.items():
+            write(name, s)
         return
+    wanted = {name: expected(name, s) for name, s in cases.items()}
+    for name, s in cases.items():
+        if len(s) <= SHORT and bytes.fromhex((HERE / f"{name}.hex").read_text()) != s:
+            faults.append(f"{name}: {name}.hex is not the recording that is made here")
+        if wanted[name] != listing(s):
+            faults.append(f"{name}: {kept(name, s).name} is not what the model says")
     program = command()
 
     def compare(name, out, err, want):
@@ -330,9 +203,9 @@ def main():
 
     for name, s in cases.items():
         done = subprocess.run(program, input=s, capture_output=True)
-        compare(name, done.stdout, done.stderr, listing(s))
+        compare(name, done.stdout, done.stderr, wanted[name])
     for name in ("document", "clip", "nothing"):
-        compare(f"{name}, slowly", *slow(program, cases[name]), listing(cases[name]))
+        compare(f"{name}, slowly", *slow(program, cases[name]), wanted[name])
     # a folder can be opened and not read: that is no end of input, and no listing is written
     folder = os.open(HERE, os.O_RDONLY)
     done = subprocess.run(program, stdin=folder, capture_output=True)
@@ -349,7 +222,7 @@ def main():
         print("listings:", fault)
     if faults:
         sys.exit(1)
-    print(f"listings: {count} runs of the program, as tests/listings.py works them out")
+    print(f"listings: {count} runs of the program, each as kept in tests/listings")
 
 
 main()
