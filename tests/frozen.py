@@ -1,9 +1,10 @@
 #!/usr/bin/env python3
 """Replays tests/frozen: thousands of cases with the answers of h264-reader 0.9.0, which need none of its sources.
 
-    tests/frozen.py [--port COMMAND | --model]
+    tests/frozen.py [--port COMMAND | --model] [--rewrite]
 
 COMMAND answers `COMMAND cases FILE`; else $TUZ does, else ./tuz. The model in document01.py is held to them too; --model: it alone.
+With --rewrite the port also writes each slice header that it has read, and stops where its bits do not come back.
 
 A line of answers.txt is the Rust's answer, as tests/oracle prints it. Where the Rust departs from document 01 in a known way
 (docs/DIFFERENCES.md), what document 01 wants stands behind ` | doc: `, or, where the Rust stops at a forbidden pattern, the Rust's answer
@@ -53,6 +54,7 @@ def main():
     p = argparse.ArgumentParser(description=__doc__, formatter_class=argparse.RawDescriptionHelpFormatter)
     p.add_argument("--port", default=os.environ.get("TUZ", str(ROOT / "tuz")))
     p.add_argument("--model", action="store_true")
+    p.add_argument("--rewrite", action="store_true")
     args = p.parse_args()
     port = shlex.split(args.port)
     wanted = [BIT.sub("", DOCUMENT.sub("", line)) for line in (FROZEN / "answers.txt").read_text().splitlines()]
@@ -62,8 +64,15 @@ def main():
     if not pathlib.Path(port[0]).exists() and "/" in port[0]:
         print(f"frozen: the port is SKIPPED: there is no {port[0]}; give --port or $TUZ")
         return not good
-    done = subprocess.run([*port, "cases", str(FROZEN / "cases.txt")], stdout=subprocess.PIPE, text=True)
-    return not (held("the port", BIT.sub("", done.stdout).splitlines(), wanted) and good)
+    rewrite = ["--rewrite"] if args.rewrite else []
+    done = subprocess.run([*port, "cases", *rewrite, str(FROZEN / "cases.txt")], stdout=subprocess.PIPE, text=True)
+    answers = BIT.sub("", done.stdout).splitlines()
+    if done.returncode:
+        print(f"frozen: the port ends with status {done.returncode} after {len(answers)} answers")
+        return 1
+    if args.rewrite:
+        print(f"frozen: the port: {sum(a.startswith('slice ') for a in answers)} slice headers written back to their bits")
+    return not (held("the port", answers, wanted) and good)
 
 
 sys.exit(main())

@@ -1,5 +1,5 @@
 #!/usr/bin/env python3
-"""Makes the clips of this folder anew: a night sky of our own with a comet passing, by x264 (Debian package x264).
+"""Makes the clips of this folder and of demo/ anew: a night sky of our own with a comet passing, by x264 (Debian package x264).
 
 make.py [FOLDER]   writes NAME.264 and NAME.table for each clip
 x264's output depends on its version (see README.md); the tests do not depend on these very bytes.
@@ -23,7 +23,10 @@ CLIPS = {
     "plain": (48, ["--profile", "baseline", "--crf", "22", "--keyint", "200", "--intra-refresh", "--slice-max-size", "700", "--ref", "3"]),
     # fields allowed (frame_mbs_only_flag 0), order counts of both fields, reordered reference lists
     "fields": (24, ["--profile", "main", "--tff", "--crf", "20", "--keyint", "12", "--ref", "4", "--bframes", "2", "--b-pyramid", "strict"]),
+    # the demo: a slice a picture, one IDR picture, QP that falls as the rate allows
+    "night": (24, ["--profile", "main", "--bitrate", "120", "--keyint", "250", "--no-scenecut", "--bframes", "2"]),
 }
+FOLDERS = {"night": HERE.parent.parent / "demo"}
 
 
 def sky(frames):
@@ -49,8 +52,8 @@ def sky(frames):
 
 
 def main():
-    folder = pathlib.Path(sys.argv[1]) if len(sys.argv) > 1 else HERE
     for name, (frames, options) in CLIPS.items():
+        folder = pathlib.Path(sys.argv[1]) if len(sys.argv) > 1 else FOLDERS.get(name, HERE)
         clip = folder / f"{name}.264"
         subprocess.run(["x264", *COMMON, *options, "-o", str(clip), "-"], input=b"".join(sky(frames)), check=True)
         (folder / f"{name}.table").write_text("\n".join(words_of(clip.read_bytes())) + "\n")

@@ -1,32 +1,28 @@
-//! What reading a unit answers, as named fields in reading order: one list, from which the text, JSON and CSV forms are made.
+//! What reading a unit answers, as named fields in reading order: one list, which every form is written from.
 
-use std::io::{self, Write};
 use tuzmarghil::raw::{MarkedFlag, MarkedNumber, MarkedSigned, Operations, Prefix, ReadOut};
 use tuzmarghil::raw::{SliceHeader, Weight, WeightList};
 use tuzmarghil::NalHeaderExtension;
 
 /// A field's content.
-pub enum Value {
+#[derive(Clone, Copy)]
+pub enum Value<'a> {
     Number(i64),
     Flag(bool),
     Word(&'static str),
-    /// numbers joined by `:`
-    Pair([i64; 2]),
-    /// codes with their operands
-    List(Vec<Vec<u32>>),
-    Weights(Vec<Entry>),
+    Pair([i32; 2]),
+    /// codes, and how many operands each has
+    List(&'a Operations, fn(u32) -> usize),
+    /// the weights of each reference, and whether there are chroma parts
+    Weights(&'a WeightList, bool),
 }
 
-/// The weights of one reference: luma, and chroma where there are chroma parts; nothing where a flag is clear.
-pub struct Entry {
-    pub luma: Option<[i32; 2]>,
-    pub chroma: Option<Option<[i32; 4]>>,
-}
-
-/// `slice`, `prefix`, `other` or `refused`, and the fields that go with it.
-pub struct Answer {
-    pub kind: &'static str,
-    pub fields: Vec<(&'static str, Value)>,
+/// A form in which an answer is written.
+pub trait Form {
+    /// `slice`, `prefix`, `other` or `refused`.
+    fn kind(&mut self, kind: &'static str);
+    /// A field that goes with it.
+    fn field(&mut self, name: &'static str, value: Value<'_>);
 }
 
 /// Every name that a field can have, in reading order.
@@ -93,141 +89,38 @@ pub const NAMES: [&str; 60] = [
     "bits",
 ];
 
-impl Answer {
-    /// The answer for these bytes.
-    pub fn of(unit: &[u8], out: &ReadOut) -> Answer {
-        let mut list = Fields(Vec::with_capacity(40));
-        let kind = match out.answer {
-            0 => {
-                list.number("type", out.number);
-                "other"
-            }
-            1 => {
-                list.first_byte(unit, true);
-                list.slice(&out.header);
-                list.put("bits", Value::Number(out.bits as i64));
-                "slice"
-            }
-            2 => {
-                list.first_byte(unit, false);
-                list.prefix(&out.prefix);
-                "prefix"
-            }
-            _ => {
-                list.number("refusal", out.number);
-                list.put("value", Value::Number(out.value));
-                "refused"
-            }
-        };
-        Answer {
-            kind,
-            fields: list.0,
+/// Writes the answer for these bytes.
+pub fn write(unit: &[u8], out: &ReadOut, form: &mut impl Form) {
+    let mut to = Fields(form);
+    match out.answer {
+        0 => {
+            to.0.kind("other");
+            to.number("type", out.number);
         }
-    }
-
-    /// The field with this name.
-    pub fn get(&self, name: &str) -> Option<&Value> {
-        self.fields.iter().find(|(n, _)| *n == name).map(|(_, v)| v)
-    }
-
-    /// The answer line, without its end.
-    pub fn write(&self, to: &mut impl Write) -> io::Result<()> {
-        to.write_all(self.kind.as_bytes())?;
-        for (name, value) in &self.fields {
-            if *name == "refusal" {
-                to.write_all(b" ")?;
-            } else {
-                write!(to, " {name}=")?;
-            }
-            value.write(to)?;
+        1 => {
+            to.0.kind("slice");
+            to.first_byte(unit, true);
+            to.slice(&out.header);
+            to.number("bits", out.bits as i64);
         }
-        Ok(())
-    }
-}
-
-impl Value {
-    pub fn write(&self, to: &mut impl Write) -> io::Result<()> {
-        match self {
-            Value::Number(n) => write!(to, "{n}"),
-            Value::Flag(b) => write!(to, "{}", u8::from(*b)),
-            Value::Word(w) => write!(to, "{w}"),
-            Value::Pair([a, b]) => write!(to, "{a}:{b}"),
-            Value::List(list) => joined(to, list, |to, entry| colons(to, entry)),
-            Value::Weights(list) => joined(to, list, |to, entry| {
-                match &entry.luma {
-                    None => write!(to, "-")?,
-                    Some(luma) => colons(to, luma)?,
-                }
-                match &entry.chroma {
-                    None => Ok(()),
-                    Some(None) => write!(to, "/-"),
-                    Some(Some(chroma)) => {
-                        write!(to, "/")?;
-                        colons(to, chroma)
-                    }
-                }
-            }),
+        2 => {
+            to.0.kind("prefix");
+            to.first_byte(unit, false);
+            to.prefix(&out.prefix);
         }
-    }
-
-    pub fn text(&self) -> String {
-        let mut text = Vec::new();
-        self.write(&mut text).expect("memory takes it");
-        String::from_utf8(text).expect("digits and signs")
-    }
-
-    pub fn json(&self) -> serde_json::Value {
-        use serde_json::json;
-        match self {
-            Value::Number(n) => json!(n),
-            Value::Flag(b) => json!(b),
-            Value::Word(w) => json!(w),
-            Value::Pair(p) => json!(p),
-            Value::List(list) => json!(list),
-            Value::Weights(list) => list
-                .iter()
-                .map(|e| match &e.chroma {
-                    None => json!({ "luma": e.luma }),
-                    Some(chroma) => json!({ "luma": e.luma, "chroma": chroma }),
-                })
-                .collect(),
+        _ => {
+            to.0.kind("refused");
+            to.number("refusal", out.number);
+            to.number("value", out.value);
         }
     }
 }
 
-/// Entries joined by `,`, or `-` where there is none.
-fn joined<W: Write, T>(
-    to: &mut W,
-    list: &[T],
-    mut each: impl FnMut(&mut W, &T) -> io::Result<()>,
-) -> io::Result<()> {
-    if list.is_empty() {
-        return to.write_all(b"-");
-    }
-    for (i, entry) in list.iter().enumerate() {
-        if i > 0 {
-            to.write_all(b",")?;
-        }
-        each(to, entry)?;
-    }
-    Ok(())
-}
+struct Fields<'f, F>(&'f mut F);
 
-fn colons(to: &mut impl Write, numbers: &[impl std::fmt::Display]) -> io::Result<()> {
-    for (i, n) in numbers.iter().enumerate() {
-        if i > 0 {
-            to.write_all(b":")?;
-        }
-        write!(to, "{n}")?;
-    }
-    Ok(())
-}
-
-struct Fields(Vec<(&'static str, Value)>);
-
-impl Fields {
-    fn put(&mut self, name: &'static str, value: Value) {
-        self.0.push((name, value));
+impl<F: Form> Fields<'_, F> {
+    fn put(&mut self, name: &'static str, value: Value<'_>) {
+        self.0.field(name, value);
     }
 
     fn number(&mut self, name: &'static str, n: impl Into<i64>) {
@@ -236,6 +129,14 @@ impl Fields {
 
     fn flag(&mut self, name: &'static str, b: bool) {
         self.put(name, Value::Flag(b));
+    }
+
+    fn list(&mut self, name: &'static str, list: &Operations, operands: fn(u32) -> usize) {
+        self.put(name, Value::List(list, operands));
+    }
+
+    fn weights(&mut self, name: &'static str, list: &WeightList, chroma: bool) {
+        self.put(name, Value::Weights(list, chroma));
     }
 
     fn number_if(&mut self, name: &'static str, n: MarkedNumber) {
@@ -290,7 +191,7 @@ impl Fields {
     fn prefix(&mut self, p: &Prefix) {
         self.flag_if("store_ref_base_pic_flag", p.store_ref_base_pic_flag);
         if p.store_ref_base_pic_flag.value {
-            self.put("base_mmco", operations(&p.base_marking, |_| 1));
+            self.list("base_mmco", &p.base_marking, |_| 1);
         }
         self.flag_if(
             "additional_prefix_nal_unit_extension_flag",
@@ -316,7 +217,7 @@ impl Fields {
         );
         let deltas = order.delta_pic_order_cnt;
         if deltas.there {
-            let pair = [deltas.first.into(), deltas.second.into()];
+            let pair = [deltas.first, deltas.second];
             self.put("delta_pic_order_cnt", Value::Pair(pair));
         }
         self.number_if("redundant_pic_cnt", order.redundant_pic_cnt);
@@ -340,7 +241,7 @@ impl Fields {
         let (l0, l1) = (&h.modifications.l0, &h.modifications.l1);
         for (name, list) in [("mods_l0", l0), ("mods_l1", l1)] {
             if list.flag.there {
-                self.put(name, operations(&list.operations, |_| 1));
+                self.list(name, &list.operations, |_| 1);
             }
         }
         let weights = &h.pred_weight_table;
@@ -348,9 +249,9 @@ impl Fields {
             self.number("luma_log2_weight_denom", weights.luma_log2_weight_denom);
             let chroma = weights.chroma_log2_weight_denom;
             self.number_if("chroma_log2_weight_denom", chroma);
-            self.put("weights_l0", entries(&weights.l0, chroma.there));
+            self.weights("weights_l0", &weights.l0, chroma.there);
             if h.slice_type % 5 == 1 {
-                self.put("weights_l1", entries(&weights.l1, chroma.there));
+                self.weights("weights_l1", &weights.l1, chroma.there);
             }
         }
         let marking = &h.dec_ref_pic_marking;
@@ -367,7 +268,7 @@ impl Fields {
                 5 => 0,
                 _ => 1,
             };
-            self.put("mmco", operations(&marking.operations, operands));
+            self.list("mmco", &marking.operations, operands);
         }
         self.number_if("cabac_init_idc", h.quantiser.cabac_init_idc);
         self.number("slice_qp_delta", h.quantiser.slice_qp_delta);
@@ -389,21 +290,268 @@ impl Fields {
     }
 }
 
-/// Codes, each with as many operands as it has.
-fn operations(list: &Operations, operands: impl Fn(u32) -> usize) -> Value {
-    let entry = |(code, first, second)| [code, first, second][..1 + operands(code)].to_vec();
-    Value::List(list.entries().map(entry).collect())
+/// Answer lines: words `name=content`.
+pub struct Text<'a>(pub &'a mut Vec<u8>);
+
+impl Form for Text<'_> {
+    fn kind(&mut self, kind: &'static str) {
+        self.0.extend_from_slice(kind.as_bytes());
+    }
+
+    fn field(&mut self, name: &'static str, value: Value<'_>) {
+        self.0.push(b' ');
+        // a refusal's number stands alone
+        if name != "refusal" {
+            self.0.extend_from_slice(name.as_bytes());
+            self.0.push(b'=');
+        }
+        value.text(self.0);
+    }
 }
 
-fn entries(list: &WeightList, chroma: bool) -> Value {
-    let entry = |w: &Weight| Entry {
-        luma: w.luma_weight_flag.then_some([w.luma_weight, w.luma_offset]),
-        chroma: chroma.then_some(w.chroma_weight_flag.then_some([
-            w.cb_weight,
-            w.cb_offset,
-            w.cr_weight,
-            w.cr_offset,
-        ])),
-    };
-    Value::Weights(list.weights().iter().map(entry).collect())
+impl Value<'_> {
+    /// As answer lines have it.
+    pub fn text(self, to: &mut Vec<u8>) {
+        match self {
+            Value::Number(n) => number(to, n),
+            Value::Flag(b) => to.push(b'0' + u8::from(b)),
+            Value::Word(w) => to.extend_from_slice(w.as_bytes()),
+            Value::Pair(pair) => colons(to, &pair),
+            Value::List(list, operands) => {
+                let mut before = Commas::new();
+                for (code, first, second) in list.entries() {
+                    before.put(to);
+                    colons(to, &[code, first, second][..1 + operands(code)]);
+                }
+                before.none(to);
+            }
+            Value::Weights(list, chroma) => {
+                let mut before = Commas::new();
+                for weight in list.weights() {
+                    before.put(to);
+                    match luma(weight) {
+                        None => to.push(b'-'),
+                        Some(luma) => colons(to, &luma),
+                    }
+                    match chroma.then(|| chroma_of(weight)) {
+                        None => {}
+                        Some(None) => to.extend_from_slice(b"/-"),
+                        Some(Some(chroma)) => {
+                            to.push(b'/');
+                            colons(to, &chroma);
+                        }
+                    }
+                }
+                before.none(to);
+            }
+        }
+    }
+
+    /// As JSON has it.
+    pub fn json(self, to: &mut Vec<u8>) {
+        match self {
+            Value::Number(n) => number(to, n),
+            Value::Flag(b) => to.extend_from_slice(if b { b"true" } else { b"false" }),
+            Value::Word(w) => {
+                to.push(b'"');
+                to.extend_from_slice(w.as_bytes());
+                to.push(b'"');
+            }
+            Value::Pair(pair) => array(to, &pair),
+            Value::List(list, operands) => {
+                to.push(b'[');
+                let mut before = Commas::new();
+                for (code, first, second) in list.entries() {
+                    before.put(to);
+                    array(to, &[code, first, second][..1 + operands(code)]);
+                }
+                to.push(b']');
+            }
+            Value::Weights(list, chroma) => {
+                to.push(b'[');
+                let mut before = Commas::new();
+                for weight in list.weights() {
+                    before.put(to);
+                    to.extend_from_slice(b"{\"luma\":");
+                    array_or_null(to, luma(weight));
+                    if chroma {
+                        to.extend_from_slice(b",\"chroma\":");
+                        array_or_null(to, chroma_of(weight));
+                    }
+                    to.push(b'}');
+                }
+                to.push(b']');
+            }
+        }
+    }
+}
+
+/// Weight and offset; nothing where the flag is clear.
+fn luma(w: &Weight) -> Option<[i32; 2]> {
+    w.luma_weight_flag.then_some([w.luma_weight, w.luma_offset])
+}
+
+/// Weight and offset of Cb, then of Cr; nothing where the flag is clear.
+fn chroma_of(w: &Weight) -> Option<[i32; 4]> {
+    w.chroma_weight_flag
+        .then_some([w.cb_weight, w.cb_offset, w.cr_weight, w.cr_offset])
+}
+
+/// A comma before each entry but the first.
+struct Commas(bool);
+
+impl Commas {
+    fn new() -> Commas {
+        Commas(false)
+    }
+
+    fn put(&mut self, to: &mut Vec<u8>) {
+        if std::mem::replace(&mut self.0, true) {
+            to.push(b',');
+        }
+    }
+
+    /// `-` where there was no entry.
+    fn none(self, to: &mut Vec<u8>) {
+        if !self.0 {
+            to.push(b'-');
+        }
+    }
+}
+
+fn colons<N: Copy + Into<i64>>(to: &mut Vec<u8>, numbers: &[N]) {
+    for (i, n) in numbers.iter().enumerate() {
+        if i > 0 {
+            to.push(b':');
+        }
+        number(to, (*n).into());
+    }
+}
+
+fn array<N: Copy + Into<i64>>(to: &mut Vec<u8>, numbers: &[N]) {
+    to.push(b'[');
+    let mut before = Commas::new();
+    for n in numbers {
+        before.put(to);
+        number(to, (*n).into());
+    }
+    to.push(b']');
+}
+
+fn array_or_null<const N: usize>(to: &mut Vec<u8>, numbers: Option<[i32; N]>) {
+    match numbers {
+        None => to.extend_from_slice(b"null"),
+        Some(numbers) => array(to, &numbers),
+    }
+}
+
+/// A number in digits: most have one, and going through `fmt` for each takes longer than reading the unit.
+pub fn number(to: &mut Vec<u8>, n: i64) {
+    if (0..10).contains(&n) {
+        return to.push(b'0' + n as u8);
+    }
+    let mut digits = [0; 20];
+    let (mut at, mut rest) = (digits.len(), n.unsigned_abs());
+    while rest > 0 {
+        at -= 1;
+        digits[at] = b'0' + (rest % 10) as u8;
+        rest /= 10;
+    }
+    if n < 0 {
+        at -= 1;
+        digits[at] = b'-';
+    }
+    to.extend_from_slice(&digits[at..]);
+}
+
+#[cfg(test)]
+mod tests {
+    use super::*;
+
+    #[test]
+    fn numbers_are_as_fmt_has_them() {
+        let powers = (0..63).flat_map(|k| [-1, 0, 1].map(|d| (1i64 << k) + d));
+        let tens = (0..19).flat_map(|k| [-1, 0, 1].map(|d| 10i64.pow(k) + d));
+        for n in powers.chain(tens).chain([0, i64::MAX, i64::MIN]) {
+            for n in [n, n.wrapping_neg()] {
+                let mut text = Vec::new();
+                number(&mut text, n);
+                assert_eq!(String::from_utf8(text).unwrap(), n.to_string());
+            }
+        }
+    }
+
+    /// Each name is in the list of names, and they come in its order: a row of CSV is written so.
+    #[test]
+    fn names_stand_in_reading_order() {
+        let there = MarkedNumber {
+            there: true,
+            value: 1,
+        };
+        let signed = MarkedSigned {
+            there: true,
+            value: -1,
+        };
+        let flag = MarkedFlag {
+            there: true,
+            value: true,
+        };
+        let mut out = ReadOut::default();
+        let h = &mut out.header;
+        h.slice_type = 1;
+        h.frame.colour_plane_id = there;
+        h.frame.field_pic_flag = flag;
+        h.frame.bottom_field_flag = flag;
+        h.frame.idr_pic_id = there;
+        h.order_count.pic_order_cnt_lsb = there;
+        h.order_count.delta_pic_order_cnt_bottom = signed;
+        h.order_count.delta_pic_order_cnt.there = true;
+        h.order_count.redundant_pic_cnt = there;
+        h.active_counts.direct_spatial_mv_pred_flag = flag;
+        h.active_counts.num_ref_idx_active_override_flag = flag;
+        h.active_counts.num_ref_idx_l0_active_minus1 = there;
+        h.active_counts.num_ref_idx_l1_active_minus1 = there;
+        h.modifications.l0.flag = flag;
+        h.modifications.l1.flag = flag;
+        h.pred_weight_table.there = true;
+        h.pred_weight_table.chroma_log2_weight_denom = there;
+        h.dec_ref_pic_marking.no_output_of_prior_pics_flag = flag;
+        h.dec_ref_pic_marking.long_term_reference_flag = flag;
+        h.dec_ref_pic_marking.adaptive_ref_pic_marking_mode_flag = flag;
+        h.quantiser.cabac_init_idc = there;
+        h.quantiser.sp_for_switch_flag = flag;
+        h.quantiser.slice_qs_delta = signed;
+        h.filter.disable_deblocking_filter_idc = there;
+        h.filter.slice_alpha_c0_offset_div2 = signed;
+        h.filter.slice_beta_offset_div2 = signed;
+        h.filter.slice_group_change_cycle = there;
+        out.prefix.store_ref_base_pic_flag = flag;
+        out.prefix.additional_prefix_nal_unit_extension_flag = flag;
+
+        /// Where the last field stands in the list, and all that were met.
+        struct Order(usize, Vec<&'static str>);
+        impl Form for Order {
+            fn kind(&mut self, _: &'static str) {
+                self.0 = 0;
+            }
+            fn field(&mut self, name: &'static str, _: Value<'_>) {
+                let at = NAMES.iter().position(|n| *n == name).unwrap();
+                assert!(self.0 <= at, "{name}");
+                self.0 = at + 1;
+                self.1.push(name);
+            }
+        }
+        let mut order = Order(0, vec![]);
+        for (answer, unit) in [
+            (0, [9, 0, 0, 0]),
+            (1, [0x65, 0, 0, 0]),
+            (1, [0x74, 0, 0, 0]),
+            (2, [0x6E, 0x80, 0, 0]),
+            (3, [0, 0, 0, 0]),
+        ] {
+            out.answer = answer;
+            write(&unit, &out, &mut order);
+        }
+        assert!(NAMES.iter().all(|n| order.1.contains(n)));
+    }
 }

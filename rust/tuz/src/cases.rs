@@ -1,6 +1,6 @@
 //! `tuz cases`: one answer line for each case line.
 
-use crate::answer::Answer;
+use crate::answer::{self, Text};
 use crate::words;
 use anyhow::{ensure, Context, Result};
 use std::io::{BufRead, Write};
@@ -12,6 +12,7 @@ pub fn run(cases: &mut impl BufRead, rewrite: bool, to: &mut impl Write) -> Resu
     // the words that the table was made of
     let mut made = String::new();
     let (mut line, mut unit, mut scratch) = (String::new(), Vec::new(), Vec::new());
+    let mut said = Vec::new();
     let mut out = ReadOut::default();
     for number in 1u64.. {
         line.clear();
@@ -35,8 +36,10 @@ pub fn run(cases: &mut impl BufRead, rewrite: bool, to: &mut impl Write) -> Resu
             scratch.resize(unit.len(), 0);
         }
         read_unit_raw(&table, &unit, &mut scratch, &mut out);
-        Answer::of(&unit, &out).write(to)?;
-        to.write_all(b"\n")?;
+        said.clear();
+        answer::write(&unit, &out, &mut Text(&mut said));
+        said.push(b'\n');
+        to.write_all(&said)?;
         if rewrite && out.answer == 1 {
             rewritten(&table, &unit, &scratch, &out).with_context(place)?;
         }

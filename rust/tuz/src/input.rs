@@ -7,7 +7,7 @@ use indicatif::{ProgressBar, ProgressStyle};
 use std::fs::{self, File};
 use std::io::{self, BufRead, BufReader, Cursor, ErrorKind, Read};
 use std::path::{Path, PathBuf};
-use tuzmarghil::{Stream, StreamReport, Table};
+use tuzmarghil::{Stream, StreamReport, Table, LIMIT};
 
 /// The sample sets of document 01, both with id 0.
 const SAMPLE: &str = "sps:0:1:0:0:4:2:0:0:1:99 pps:0:0:0:0:0:0:0:0:0:0:0:0:0";
@@ -50,6 +50,12 @@ impl Clip {
         };
         let mut text = String::new();
         let read = open(path)?.read_to_string(&mut text);
+        if matches!(&read, Err(e) if e.kind() == ErrorKind::InvalidData) {
+            bail!(
+                "{}: is no table, which is a text of words such as sps:0:1:0:0:4:2:0:0:1:99",
+                name(path)
+            );
+        }
         read.with_context(|| name(path))?;
         let mut table = Table::new();
         let lines = text.lines().map(|l| l.split('#').next().unwrap_or(""));
@@ -62,7 +68,7 @@ impl Clip {
         Ok(table)
     }
 
-    /// Hands each unit of the recording to `each`, with a bar on a terminal where the recording is long.
+    /// Hands each unit of the recording to `each`, with a bar on a terminal where the recording is long and the lines go elsewhere.
     pub fn units(
         &self,
         table: &Table,
@@ -72,6 +78,8 @@ impl Clip {
         let length = fs::metadata(&self.clip).map_or(0, |m| m.len());
         let bar = match length {
             0..=LONG => ProgressBar::hidden(),
+            // the lines themselves show it
+            _ if console::user_attended() => ProgressBar::hidden(),
             _ => {
                 let form = "{bar:40} {bytes}/{total_bytes} {bytes_per_sec} {eta}";
                 ProgressBar::new(length).with_style(ProgressStyle::with_template(form)?)
@@ -126,7 +134,8 @@ fn no_start_code(front: &[u8]) -> String {
         return told + ". It is an MP4 file, in which units stand behind lengths: `ffmpeg -i FILE -c copy -bsf:v h264_mp4toannexb OUT.264` takes the stream out";
     }
     let framed = length(0).map_or(false, |n| {
-        n > 0 && (n + 4 == front.len() || length(n + 4).map_or(n + 4 > front.len(), |m| m > 0))
+        (1..=LIMIT).contains(&n)
+            && (n + 4 == front.len() || length(n + 4).map_or(n + 4 > front.len(), |m| m > 0))
     });
     let guess = if framed {
         ". Its first bytes look like a length: units may stand behind lengths (MP4, AVCC framing)"

@@ -14,7 +14,7 @@ mod words;
 use anyhow::{Context, Result};
 use clap::{Parser, Subcommand};
 use input::Clip;
-use std::io::{self, BufWriter, Write};
+use std::io::{self, BufWriter, StdoutLock, Write};
 use std::path::PathBuf;
 use std::process::ExitCode;
 use totals::Totals;
@@ -23,6 +23,7 @@ use totals::Totals;
 #[derive(Parser)]
 #[command(
     name = "tuz",
+    bin_name = "tuz",
     version,
     after_help = "\
 Examples:
@@ -117,8 +118,27 @@ impl Ending {
     }
 }
 
+/// Standard output, whose errors say so.
+struct Out(StdoutLock<'static>);
+
+impl Write for Out {
+    fn write(&mut self, bytes: &[u8]) -> io::Result<usize> {
+        self.0.write(bytes).map_err(Out::named)
+    }
+
+    fn flush(&mut self) -> io::Result<()> {
+        self.0.flush().map_err(Out::named)
+    }
+}
+
+impl Out {
+    fn named(e: io::Error) -> io::Error {
+        io::Error::new(e.kind(), format!("standard output: {e}"))
+    }
+}
+
 fn run(args: Args) -> Result<u8> {
-    let mut out = BufWriter::with_capacity(1 << 16, io::stdout().lock());
+    let mut out = BufWriter::with_capacity(1 << 16, Out(io::stdout().lock()));
     let (clip, ending, totals) = match &args.what {
         What::List { clip, ending } => (clip, ending, list::run(clip, &mut out)?),
         What::Headers {

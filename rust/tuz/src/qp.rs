@@ -34,11 +34,9 @@ pub fn run(
     let table = clip.table()?;
     let mut totals = Totals::default();
     let mut points = Vec::new();
-    let mut end = 0;
     clip.units(&table, |r| {
         totals.take(r.length, r.read);
         let (place, length, read) = (r.place, r.length, r.read);
-        end = place + length;
         match read.answer {
             1 => {
                 let (slice_type, frame_num) = (read.header.slice_type, read.header.frame.frame_num);
@@ -75,7 +73,7 @@ pub fn run(
         table_of(&points, path).with_context(|| path.display().to_string())?;
     }
     if let Some(path) = svg {
-        plot::draw(&clip.name(), &points, end, path).with_context(|| path.display().to_string())?;
+        plot::draw(&clip.name(), &points, path).with_context(|| path.display().to_string())?;
     }
     Ok(totals)
 }

@@ -106,9 +106,7 @@ impl<R: Read> Stream<R> {
                     }
                     Some((_, length)) => {
                         let (from, to) = (3, 3 + length as usize);
-                        if self.scratch.len() < to {
-                            self.scratch.resize(to, 0);
-                        }
+                        lengthen(&mut self.scratch, to);
                         let bytes = &self.buffer[from..to];
                         let read = &mut self.out.read;
                         raw::read_unit(table.as_raw(), bytes, &mut self.scratch, read);
@@ -166,11 +164,9 @@ impl<R: Read> Stream<R> {
                 return Ok(false);
             }
             let more = (self.buffer.len() * 2).min(self.limit + 6);
-            self.buffer.resize(more, 0);
+            lengthen(&mut self.buffer, more);
         }
-        if self.scratch.len() < self.window {
-            self.scratch.resize(self.window, 0);
-        }
+        lengthen(&mut self.scratch, self.window);
         Ok(true)
     }
 
@@ -225,6 +221,14 @@ impl<R: Read> Stream<R> {
             bytes: &[],
             read: &self.out.read,
         }
+    }
+}
+
+/// Makes it so long at least, and no longer: a unit can have as many bytes as half of what we promise to need.
+fn lengthen(bytes: &mut Vec<u8>, length: usize) {
+    if bytes.len() < length {
+        bytes.reserve_exact(length - bytes.len());
+        bytes.resize(length, 0);
     }
 }
 
