@@ -1,7 +1,7 @@
 // First bytes, extensions and bodies.
 use super::show;
-use nal::escape::Body;
-use nal::escape::unescape;
+use escape::escape::Body;
+use escape::escape::unescape;
 use nal::extension::ExtensionRead;
 use nal::extension::NalHeaderExtension;
 use nal::extension::NalHeaderMvcExtension;

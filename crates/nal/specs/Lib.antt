@@ -1,4 +1,3 @@
 pub mod UnitType
 pub mod Header
 pub mod Extension
-pub mod Body

@@ -8,7 +8,7 @@ use Rattle.bits.specs.Refusals.{Res, got, no, refusal}
 use Rattle.bits.specs.Bits.{bitsOf}
 use Rattle.bits.specs.Codes.{ueAt, seAt}
 use Rattle.bits.specs.Width.{changeCycleWidth}
-use Rattle.nal.specs.Body.{body}
+use Rattle.escape.specs.Body.{body}
 use Rattle.syntax.specs.declared.record.SliceHeader.{SliceHeader}
 use Rattle.syntax.specs.SliceHeader.{readHeader}
 use Rattle.syntax.specs.Sample.{sampleTable, sampleKind, sampleHeader}

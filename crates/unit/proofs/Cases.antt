@@ -11,8 +11,8 @@ use lib.ListN.{length, drop}
 use Rattle.bits.specs.Refusals.{pick, refusal, noByte, bufferTooShort, tooLarge, limit}
 use Rattle.bits.specs.Bits.{Bits, bytesBits}
 use Rattle.nal.specs.Header.{headerOf}
-use Rattle.nal.specs.Body.{body, startWith}
-use Rattle.nal.proofs.Bodies.{part-length, same-room}
+use Rattle.escape.specs.Body.{body, startWith}
+use Rattle.escape.proofs.Bodies.{part-length, same-room}
 use Rattle.table.specs.declared.table.Table.{Table}
 use Rattle.unit.specs.declared.answer.UnitAnswer.{UnitAnswer}
 use Rattle.unit.specs.declared.answer.UnitRead.{UnitRead}

@@ -13,9 +13,9 @@ use Rattle.bits.specs.Refusals.{refusal, bufferTooShort, limit}
 use Rattle.bits.specs.declared.refusals.Refusal.{Refusal}
 use Rattle.bits.specs.Bits.{Bits, reach, bitsOf}
 use Rattle.bits.proofs.Slices.{bits-reach}
-use Rattle.nal.specs.declared.escape.Body.{Body}
-use Rattle.nal.specs.Body.{body, startWith, unescaped}
-use Rattle.nal.proofs.Bodies.{front, part-length, same-room, too-short, done}
+use Rattle.escape.specs.declared.escape.Body.{Body}
+use Rattle.escape.specs.Body.{body, startWith, unescaped}
+use Rattle.escape.proofs.Bodies.{front, part-length, same-room, too-short, done}
 use Rattle.unit.specs.declared.answer.UnitAnswer.{UnitAnswer}
 use Rattle.unit.specs.declared.answer.UnitRead.{UnitRead}
 use Rattle.unit.specs.Unit.{untouched, inBody}

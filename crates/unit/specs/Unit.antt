@@ -7,7 +7,7 @@ use lib.IntN.{pos}
 use lib.ListN.{length, drop}
 use Rattle.bits.specs.Refusals.{pick, refusal, bufferTooShort}
 use Rattle.bits.specs.Bits.{Bits, bytesBits}
-use Rattle.nal.specs.Body.{body, startWith}
+use Rattle.escape.specs.Body.{body, startWith}
 use Rattle.table.specs.declared.table.Table.{Table}
 use Rattle.syntax.specs.declared.context.UnitKind.{UnitKind}
 use Rattle.syntax.specs.SliceHeader.{readHeader}

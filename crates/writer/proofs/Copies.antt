@@ -13,7 +13,7 @@ use lib.Seq.{take-take, take-suc-set, getD-take, length-take-le, take-suc, drop-
 use Rattle.bits.specs.Bits.{Bits, bitsOf}
 use Rattle.bits.specs.Put.{putBit, putBits, written, bytesFor}
 use Rattle.bits.proofs.Puts.{length-put, put-after}
-use Rattle.nal.specs.Body.{startWith}
+use Rattle.escape.specs.Body.{startWith}
 use Rattle.writer.specs.declared.write.HeaderWrote.{HeaderWrote}
 use Rattle.writer.specs.Write.{outOf}
 use Rattle.writer.specs.Stages.{copied}

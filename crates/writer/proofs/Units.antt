@@ -16,7 +16,7 @@ use Rattle.nal.specs.declared.header.NalHeaderRead.{NalHeaderRead}
 use Rattle.nal.specs.declared.extension.NalHeaderExtension.{NalHeaderExtension}
 use Rattle.nal.specs.Header.{forbiddenZeroBitOf, headerFrom, headerOf}
 use Rattle.nal.specs.Extension.{extensionFrom, extensionOf}
-use Rattle.nal.specs.Body.{body}
+use Rattle.escape.specs.Body.{body}
 use Rattle.table.specs.declared.table.Table.{Table}
 use Rattle.syntax.specs.declared.context.UnitKind.{UnitKind}
 use Rattle.syntax.specs.declared.record.SliceHeader.{SliceHeader}

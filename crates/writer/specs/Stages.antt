@@ -10,7 +10,7 @@ use Rattle.bits.specs.Refusals.{pick, refusal, bufferTooShort}
 use Rattle.bits.specs.Put.{written, bytesFor}
 use Rattle.fmt.specs.Fmt.{Fmt, seq}
 use Rattle.fmt.specs.Leaves.{ue}
-use Rattle.nal.specs.Body.{startWith}
+use Rattle.escape.specs.Body.{startWith}
 use Rattle.syntax.specs.declared.context.Context.{Context}
 use Rattle.syntax.specs.declared.record.Modifications.{Modifications}
 use Rattle.syntax.specs.declared.record.PredWeightTable.{PredWeightTable}

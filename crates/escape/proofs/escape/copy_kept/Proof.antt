@@ -1,0 +1,141 @@
+use borrow.Author.Needs.{needs}
+use native.Mathlib.Omega.{arith}
+use mathlib.Core.Path.{_≡_, refl, _∙_}
+use Prim.Native.Nat.{ℕ, _+_, _-_, _≤_, _<_}
+use lib.ListN.{length, take, drop, length-drop, length-take}
+use Rattle.escape.proofs.Bodies.{no-body}
+use Rattle.escape.proofs.Runs.{Copied, started, none-before, none-left, found-there, esc-room, went-on, ended}
+use Rattle.escape.proofs.escape.copy_kept.Statement.{statement}
+use Rattle.escape.proofs.escape.copy_kept.Tie as tie
+
+abbrev Inv-loop : tie.InvT-loop
+Inv-loop unit from scratch₀ n i₀ o₀ scratch i o = Copied unit from scratch₀ scratch i o
+
+abbrev μ-loop : tie.MeasureT-loop
+μ-loop unit from scratch₀ n i₀ o₀ scratch i o = length unit - i
+
+returns : tie.Need-returns Inv-loop μ-loop
+returns c =
+    let a = c .before .before .before .args in
+    let e = no-body (a .unit .now) (a .from) (omega arith) in
+    (rw e, rw e)
+
+loop-holds : tie.Need-loop-holds Inv-loop μ-loop
+loop-holds c = let a = c .before .before .before .args in started (a .unit .now) (a .from) (a .scratch .now) (omega arith)
+
+seek-requires : tie.Need-seek-requires Inv-loop μ-loop
+seek-requires c κs = search needs
+
+sub-copy-in : tie.Need-sub-copy-in Inv-loop μ-loop
+sub-copy-in c = search needs
+
+part-copy-in-start : tie.Need-part-copy-in-start Inv-loop μ-loop
+part-copy-in-start c = search needs
+
+part-copy-in-end : tie.Need-part-copy-in-end Inv-loop μ-loop
+part-copy-in-end c = search needs
+
+copy-in-requires : tie.Need-copy-in-requires Inv-loop μ-loop
+copy-in-requires c κs =
+    let l = c .before .before .before .before in
+    let u = l .before .before .before .before .args .unit .now in
+    let w = l .loop .inv in
+    let g : l .loop .o + length (take (length u - l .loop .i) (drop (l .loop .i) u)) ≤ length (l .loop .scratch) = rw (length-take, length-drop) (omega arith) in
+    g
+
+same-length : tie.Need-same-length Inv-loop μ-loop
+same-length c = let m = c .before .before in m .copy-in .kept .1 .0 ∙ m .before .before .before .before .before .loop .inv .same
+
+returns-2 : tie.Need-returns-2 Inv-loop μ-loop
+returns-2 c =
+    let m = c .before .before in
+    let t = m .before .before .before in
+    let l = t .before .before in
+    let a = l .before .before .before .before .args in
+    ended (a .unit .now) (a .from) (a .scratch .now) (l .loop .scratch) (l .loop .i) (l .loop .o) (l .loop .inv)
+    (length (a .unit .now)) (m .copy-in .result) (m .copy-in .last .1 .0) refl
+    (none-left (a .unit .now) (l .loop .i) (t .before .seek .result) (t .before .seek .ensures) (omega arith))
+    (omega arith) (m .copy-in .ensures .0) (m .copy-in .ensures .1)
+
+add-stop : tie.Need-add-stop Inv-loop μ-loop
+add-stop c = search needs
+
+sub-copy-in-2 : tie.Need-sub-copy-in-2 Inv-loop μ-loop
+sub-copy-in-2 c = search needs
+
+part-copy-in-start-2 : tie.Need-part-copy-in-start-2 Inv-loop μ-loop
+part-copy-in-start-2 c = search needs
+
+part-copy-in-end-2 : tie.Need-part-copy-in-end-2 Inv-loop μ-loop
+part-copy-in-end-2 c =
+    let l = c .before .before in
+    let a = l .before .before .before .before .args in
+    omega (arith, esc-room (found-there (a .unit .now) (l .loop .i) (c .before .seek .result) (c .before .seek .ensures) (omega arith)))
+
+copy-in-requires-2 : tie.Need-copy-in-requires-2 Inv-loop μ-loop
+copy-in-requires-2 c κs =
+    let t = c .before .before in
+    let l = t .before .before in
+    let a = l .before .before .before .before .args in
+    let u = a .unit .now in
+    let w = l .loop .inv in
+    let e = t .before .seek .result in
+    let p = esc-room (found-there u (l .loop .i) e (t .before .seek .ensures) (omega arith)) in
+    let g : l .loop .o + length (take (e + 2 - l .loop .i) (drop (l .loop .i) u)) ≤ length (l .loop .scratch) = rw (length-take, length-drop) (omega arith) in
+    g
+
+add-i : tie.Need-add-i Inv-loop μ-loop
+add-i c =
+    let m = c .before .before in
+    let t = m .before .before .before in
+    let l = t .before .before in
+    let a = l .before .before .before .before .args in
+    let p = esc-room (found-there (a .unit .now) (l .loop .i) (t .before .seek .result) (t .before .seek .ensures) (omega arith)) in
+    let q = t .before .seek .ensures in
+    omega arith
+
+loop-less : tie.Need-loop-less Inv-loop μ-loop
+loop-less c =
+    let m = c .before .before in
+    let t = m .before .before .before in
+    let l = t .before .before in
+    let a = l .before .before .before .before .args in
+    let p = esc-room (found-there (a .unit .now) (l .loop .i) (t .before .seek .result) (t .before .seek .ensures) (omega arith)) in
+    let q = t .before .seek .ensures in
+    omega arith
+
+loop-again : tie.Need-loop-again Inv-loop μ-loop
+loop-again c =
+    let m = c .before .before in
+    let t = m .before .before .before in
+    let l = t .before .before in
+    let a = l .before .before .before .before .args in
+    let u = a .unit .now in
+    let e = t .before .seek .result in
+    let q = t .before .seek .ensures in
+    went-on u (a .from) (a .scratch .now) (l .loop .scratch) (l .loop .i) (l .loop .o) (l .loop .inv) e (m .copy-in2 .result) (m .copy-in2 .last .1 .0)
+    (omega arith) (none-before u (l .loop .i) e q) (found-there u (l .loop .i) e q (omega arith)) (omega arith) (m .copy-in2 .ensures .0) (m .copy-in2 .ensures .1)
+
+pub copy-kept-spec : {M : Type 1} → statement M
+copy-kept-spec =
+    tie.close
+    (tie.spec
+    Inv-loop
+    μ-loop
+    returns
+    loop-holds
+    seek-requires
+    sub-copy-in
+    part-copy-in-start
+    part-copy-in-end
+    copy-in-requires
+    same-length
+    returns-2
+    add-stop
+    sub-copy-in-2
+    part-copy-in-start-2
+    part-copy-in-end-2
+    copy-in-requires-2
+    add-i
+    loop-less
+    loop-again)

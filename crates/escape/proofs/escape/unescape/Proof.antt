@@ -1,0 +1,67 @@
+use mathlib.Core.Path.{sym, ap}
+use mathlib.Core.List.{List}
+use Prim.Native.Nat.{ℕ, _<_}
+use lib.ListN.{length}
+use mir.Facts.{toZ-pos}
+use mir.Syntax.{w64}
+use native.Mathlib.Omega.{arith}
+use borrow.Author.Needs.{needs}
+use Rattle.escape.specs.declared.escape.Body.{Body}
+use Rattle.escape.specs.Body.{Unescaped}
+use Rattle.escape.proofs.Bodies.{too-large, too-short, done}
+use Rattle.escape.proofs.escape.unescape.Statement.{statement}
+use Rattle.escape.proofs.escape.unescape.Tie as tie
+
+abbrev answered : Unescaped → Body
+answered u = u .answer
+
+abbrev leaves : Unescaped → List ℕ
+leaves u = u .left
+
+refuse-requires : tie.Need-refuse-requires
+refuse-requires c κs = search needs
+
+returns : tie.Need-returns
+returns c =
+    let a = c .before .before .before .before .args in
+    let e = too-large (a .unit .now) (a .from) (a .scratch .now) (omega arith) in
+    (rw (c .refuse .ensures) (sym (ap answered e)), sym (ap leaves e))
+
+cast-refuse : tie.Need-cast-refuse
+cast-refuse c = search needs
+
+refuse-requires-2 : tie.Need-refuse-requires-2
+refuse-requires-2 c κs = search needs
+
+returns-2 : tie.Need-returns-2
+returns-2 c =
+    let a = c .before .before .before .before .before .args in
+    let e = too-short (a .unit .now) (a .from) (a .scratch .now) (omega arith) (omega arith) in
+    let small : length (a .unit .now) < 9223372036854775808 = omega arith in
+    (rw (c .refuse2 .ensures, toZ-pos w64 small) (sym (ap answered e)), sym (ap leaves e))
+
+copy-kept-requires : tie.Need-copy-kept-requires
+copy-kept-requires c κs = search needs
+
+same-length : tie.Need-same-length
+same-length c = search needs
+
+returns-3 : tie.Need-returns-3
+returns-3 c =
+    let a = c .before .before .before .before .before .before .before .before .args in
+    let k = c .before .before .copy-kept in
+    let e = done (a .unit .now) (a .from) (a .scratch .now) (omega arith) (omega arith) in
+    (rw (k .ensures .0) (sym (ap answered e)), rw (k .ensures .1, k .ensures .0) (sym (ap leaves e)))
+
+pub unescape-spec : {M : Type 1} → statement M
+unescape-spec =
+    tie.close
+    (tie.spec
+    refuse-requires
+    returns
+    cast-refuse
+    refuse-requires-2
+    returns-2
+    copy-kept-requires
+    same-length
+    returns-3)
