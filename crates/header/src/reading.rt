@@ -51,7 +51,8 @@ fn refused(r: Refusal) -> HeaderRead
     }
 }
 
-// The header at the start of a slice unit's unescaped body, by the table whose arrays are lent.
+// The header at the start of a slice unit's unescaped body, by the table whose arrays are lent. It calls each stage that answers with arrays itself, and makes
+// the record in one literal at the end: a function between them would copy its arrays once more.
 pub fn read_header<'a>(
     s: &'a [u8],
     kind: UnitKind,
