@@ -19,7 +19,7 @@ use Rattle.syntax.specs.declared.marks.MarkedNumber.{MarkedNumber}
 use Rattle.syntax.specs.declared.record.ActiveCounts.{ActiveCounts}
 use Rattle.syntax.specs.Marks.{numberIf, flagIf}
 use Rattle.syntax.specs.Context.{isB, hasL0}
-use Rattle.syntax.specs.SliceHeader.{activeMinus1, frame, orderCount, activeCounts, activeL0, activeL1, lead}
+use Rattle.syntax.specs.SliceHeader.{activeMinus1, frame, orderCount, activeCounts, activeL0, activeL1, predWeightTable, lead}
 use Rattle.syntax.proofs.Sets.{Few, defaults-few}
 use Rattle.syntax.proofs.Goods.{FewOwn}
 use Rattle.syntax.proofs.Whole.{active-few}
@@ -28,7 +28,7 @@ use Rattle.weights.proofs.Filled.{at-most-32}
 use Rattle.header.specs.declared.lead.Led.{Led}
 use Rattle.header.specs.declared.stages.FrontParts.{FrontParts}
 use Rattle.header.specs.Lead.{ledOf}
-use Rattle.header.specs.Stages.{frontAt, middleAt}
+use Rattle.header.specs.Stages.{frontAt}
 use Rattle.header.proofs.Split.{contextOf}
 
 few-same : (n : ℕ) → n ≤ 32 → atMost32 n ≡ n
@@ -86,13 +86,13 @@ module _ (n : UnitKind) (l : Led) (a : ActiveCounts) (p : Few (l .picture)) (o :
   pub l1-same : atMost32 (activeL1 (contextOf n l) a) ≡ activeL1 (contextOf n l) a
   l1-same = few-same _ (active-few (a .«num_ref_idx_l1_active_minus1») _ (o .l1) (p .l1))
 
--- so the stage that the code reads is the header's
+-- so the weights that the code reads are the header's
 module _ (t : Table) (n : UnitKind) (s : Bits) (at : ℕ) {l : Led} {c : ℕ} (hl : bind (lead t .read s at) (λ v e. got (ledOf t v) e) ≡ got l c)
     {f : FrontParts} {d : ℕ} (hf : frontAt (contextOf n l) (l .«slice_type») s c ≡ got f d) where
-  pub middle-same : (e : ℕ)
-      → middleAt (contextOf n l) (l .«slice_type») (activeL0 (contextOf n l) (f .«active_counts»)) (activeL1 (contextOf n l) (f .«active_counts»)) s e
-      ≡ middleAt (contextOf n l) (l .«slice_type») (atMost32 (activeL0 (contextOf n l) (f .«active_counts»))) (atMost32 (activeL1 (contextOf n l) (f .«active_counts»))) s e
-  middle-same e =
+  pub weights-same : (e : ℕ)
+      → predWeightTable (contextOf n l) (l .«slice_type») (activeL0 (contextOf n l) (f .«active_counts»)) (activeL1 (contextOf n l) (f .«active_counts»)) .read s e
+      ≡ predWeightTable (contextOf n l) (l .«slice_type») (atMost32 (activeL0 (contextOf n l) (f .«active_counts»))) (atMost32 (activeL1 (contextOf n l) (f .«active_counts»))) .read s e
+  weights-same e =
       let p = led-few t s at hl in
       let o = front-few (contextOf n l) (l .«slice_type») s c hf in
-      ap₂ (λ (i j : ℕ). middleAt (contextOf n l) (l .«slice_type») i j s e) (sym (l0-same n l (f .«active_counts») p o)) (sym (l1-same n l (f .«active_counts») p o))
+      ap₂ (λ (i j : ℕ). predWeightTable (contextOf n l) (l .«slice_type») i j .read s e) (sym (l0-same n l (f .«active_counts») p o)) (sym (l1-same n l (f .«active_counts») p o))

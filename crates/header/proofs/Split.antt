@@ -1,4 +1,4 @@
--- Reading the header is its first fields, then the three stages, then the test of what follows.
+-- Reading the header is its first fields, then the stages one after the other, then the test of what follows.
 use Prim.Native.Nat.{ℕ, _+_}
 use mathlib.Core.Path.{_≡_}
 use lib.IntN.{pos}
@@ -10,34 +10,70 @@ use Rattle.fmt.specs.Fmt.{seq, shaped}
 use Rattle.table.specs.declared.table.Table.{Table}
 use Rattle.syntax.specs.declared.context.UnitKind.{UnitKind}
 use Rattle.syntax.specs.declared.context.Context.{Context}
+use Rattle.syntax.specs.declared.marks.MarkedFlag.{MarkedFlag}
+use Rattle.syntax.specs.declared.record.Operations.{Operations}
+use Rattle.syntax.specs.declared.record.Modifications.{Modifications}
+use Rattle.syntax.specs.declared.record.PredWeightTable.{PredWeightTable}
+use Rattle.syntax.specs.declared.record.DecRefPicMarking.{DecRefPicMarking}
 use Rattle.syntax.specs.declared.record.SliceHeader.{SliceHeader}
-use Rattle.syntax.specs.Context.{contextFor, sequenceIdFor}
-use Rattle.syntax.specs.SliceHeader.{Parts, parts, lead, header, readHeader, activeL0, activeL1, anySet}
+use Rattle.syntax.specs.Marks.{flagIf}
+use Rattle.syntax.specs.Lists.{operationsIf}
+use Rattle.syntax.specs.Context.{isB, contextFor, sequenceIdFor}
+use Rattle.syntax.specs.SliceHeader.{Parts, parts, lead, modificationKind, modification, modifications, predWeightTable, markingKind, decRefPicMarking, header, readHeader, activeL0, activeL1, anySet}
 use Rattle.header.specs.declared.lead.Led.{Led}
 use Rattle.header.specs.declared.stages.FrontParts.{FrontParts}
-use Rattle.header.specs.declared.stages.MiddleParts.{MiddleParts}
+use Rattle.header.specs.declared.stages.MarkingFlags.{MarkingFlags}
 use Rattle.header.specs.declared.stages.BackParts.{BackParts}
 use Rattle.header.specs.Lead.{ledOf}
-use Rattle.header.specs.Stages.{frontAt, middleAt, backAt}
+use Rattle.header.specs.Stages.{frontAt, firstFlagAt, markingFlagsAt, backAt}
 
-abbrev pub partsOf : FrontParts → MiddleParts → BackParts → Parts
-partsOf f m b =
-    (f .frame, (f .«order_count», (f .«active_counts», (m .modifications, (m .«pred_weight_table», (m .«dec_ref_pic_marking», (b .quantiser, b .filter)))))))
+abbrev pub modificationsOf : MarkedFlag → Operations → MarkedFlag → Operations → Modifications
+modificationsOf g o h p = record { l0 = record { flag = g; operations = o }; l1 = record { flag = h; operations = p } }
 
-pub parts-split : (x : Context) (k : ℕ) (s : Bits) (at : ℕ)
-    → parts x k .read s at
-    ≡ bind (frontAt x k s at) (λ f c.
-    bind (middleAt x k (activeL0 x (f .«active_counts»)) (activeL1 x (f .«active_counts»)) s c) (λ m d.
-    bind (backAt x k s d) (λ b e.
-    got (partsOf f m b) e)))
-unfolding parts seq frontAt middleAt backAt
-parts-split x k s at = simp bind-bind
+abbrev pub markingOf : MarkingFlags → Operations → DecRefPicMarking
+markingOf m o =
+    record {
+      «no_output_of_prior_pics_flag» = m .«no_output_of_prior_pics_flag»;
+      «long_term_reference_flag» = m .«long_term_reference_flag»;
+      «adaptive_ref_pic_marking_mode_flag» = m .«adaptive_ref_pic_marking_mode_flag»;
+      operations = o;
+    }
+
+abbrev pub partsOf : FrontParts → Modifications → PredWeightTable → DecRefPicMarking → BackParts → Parts
+partsOf f m w d b = (f .frame, (f .«order_count», (f .«active_counts», (m, (w, (d, (b .quantiser, b .filter)))))))
+
+module _ (x : Context) (k : ℕ) (s : Bits) (at : ℕ) where
+  pub modifications-split : modifications x k .read s at
+      ≡ bind (firstFlagAt x k s at) (λ g c.
+      bind (operationsIf (g .value) (modificationKind (x .kind .mvc)) .read s c) (λ o d.
+      bind (flagIf (isB k) .read s d) (λ h e.
+      bind (operationsIf (h .value) (modificationKind (x .kind .mvc)) .read s e) (λ p f.
+      got (modificationsOf g o h p) f))))
+  unfolding modifications modification seq shaped firstFlagAt
+  modifications-split = simp bind-bind
+
+  pub marking-split : decRefPicMarking x .read s at
+      ≡ bind (markingFlagsAt x s at) (λ m c.
+      bind (operationsIf (m .«adaptive_ref_pic_marking_mode_flag» .value) markingKind .read s c) (λ o d.
+      got (markingOf m o) d))
+  unfolding decRefPicMarking seq shaped markingFlagsAt
+  marking-split = simp bind-bind
+
+  pub parts-split : parts x k .read s at
+      ≡ bind (frontAt x k s at) (λ f c.
+      bind (modifications x k .read s c) (λ m d.
+      bind (predWeightTable x k (activeL0 x (f .«active_counts»)) (activeL1 x (f .«active_counts»)) .read s d) (λ w e.
+      bind (decRefPicMarking x .read s e) (λ r g.
+      bind (backAt x k s g) (λ b h.
+      got (partsOf f m w r b) h)))))
+  unfolding parts seq frontAt backAt
+  parts-split = simp bind-bind
 
 abbrev pub contextOf : UnitKind → Led → Context
 contextOf n l = record { kind = n; picture = l .picture; sequence = l .sequence }
 
-abbrev pub headerOf : Led → FrontParts → MiddleParts → BackParts → SliceHeader
-headerOf l f m b =
+abbrev pub headerOf : Led → FrontParts → Modifications → PredWeightTable → DecRefPicMarking → BackParts → SliceHeader
+headerOf l f m w d b =
     record {
       «first_mb_in_slice» = l .«first_mb_in_slice»;
       «slice_type» = l .«slice_type»;
@@ -46,9 +82,9 @@ headerOf l f m b =
       frame = f .frame;
       «order_count» = f .«order_count»;
       «active_counts» = f .«active_counts»;
-      modifications = m .modifications;
-      «pred_weight_table» = m .«pred_weight_table»;
-      «dec_ref_pic_marking» = m .«dec_ref_pic_marking»;
+      modifications = m;
+      «pred_weight_table» = w;
+      «dec_ref_pic_marking» = d;
       quantiser = b .quantiser;
       filter = b .filter;
     }
@@ -57,11 +93,17 @@ module _ (n : UnitKind) (s : Bits) where
   -- what follows the first fields
   abbrev pub rest : Led → ℕ → Res SliceHeader
   rest l c =
-      bind (frontAt (contextOf n l) (l .«slice_type») s c) (λ f d.
-      bind (middleAt (contextOf n l) (l .«slice_type») (activeL0 (contextOf n l) (f .«active_counts»)) (activeL1 (contextOf n l) (f .«active_counts»)) s d) (λ m e.
-      bind (backAt (contextOf n l) (l .«slice_type») s e) (λ b g.
-      pick (anySet (drop (g + 1) s)) (got (headerOf l f m b) g) (no (refusal 22 (pos 0) g)))))
+      bind (frontAt (contextOf n l) (l .«slice_type») s c) (λ f c1.
+      bind (firstFlagAt (contextOf n l) (l .«slice_type») s c1) (λ g c2.
+      bind (operationsIf (g .value) (modificationKind (n .mvc)) .read s c2) (λ o c3.
+      bind (flagIf (isB (l .«slice_type»)) .read s c3) (λ h c4.
+      bind (operationsIf (h .value) (modificationKind (n .mvc)) .read s c4) (λ p c5.
+      bind (predWeightTable (contextOf n l) (l .«slice_type») (activeL0 (contextOf n l) (f .«active_counts»)) (activeL1 (contextOf n l) (f .«active_counts»)) .read s c5) (λ w c6.
+      bind (markingFlagsAt (contextOf n l) s c6) (λ m c7.
+      bind (operationsIf (m .«adaptive_ref_pic_marking_mode_flag» .value) markingKind .read s c7) (λ q c8.
+      bind (backAt (contextOf n l) (l .«slice_type») s c8) (λ b e.
+      pick (anySet (drop (e + 1) s)) (got (headerOf l f (modificationsOf g o h p) w (markingOf m q) b) e) (no (refusal 22 (pos 0) e)))))))))))
 
   pub header-split : (t : Table) → readHeader t n s ≡ bind (bind (lead t .read s 0) (λ v e. got (ledOf t v) e)) rest
   unfolding readHeader header shaped seq contextFor sequenceIdFor
-  header-split t = simp (bind-bind, parts-split)
+  header-split t = simp (bind-bind, parts-split, modifications-split, marking-split)

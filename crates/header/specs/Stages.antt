@@ -1,17 +1,20 @@
--- The parts after pic_parameter_set_id in three stages, and what the code's answers say of them. They are the code's own: the contract of reading the header
+-- The parts after pic_parameter_set_id in stages, and what the code's answers say of them. They are the code's own: the contract of reading the header
 -- does not name them.
 use Prim.Native.Nat.{ℕ}
+use mathlib.Core.Bool.{not, _&&_}
 use Rattle.bits.specs.Refusals.{Res, got, no, bind}
 use Rattle.bits.specs.Answers.{none}
 use Rattle.bits.specs.Bits.{Bits}
 use Rattle.bits.specs.declared.refusals.Refusal.{Refusal}
 use Rattle.syntax.specs.declared.context.Context.{Context}
-use Rattle.syntax.specs.SliceHeader.{frame, orderCount, activeCounts, modifications, predWeightTable, decRefPicMarking, quantiser, filter}
-use Rattle.lists.specs.Absent.{noModifications, noMarking}
-use Rattle.weights.specs.Counts.{noTable}
+use Rattle.syntax.specs.declared.marks.MarkedFlag.{MarkedFlag}
+use Rattle.syntax.specs.Marks.{flagIf}
+use Rattle.syntax.specs.Context.{hasL0}
+use Rattle.syntax.specs.SliceHeader.{frame, orderCount, activeCounts, notScalable, quantiser, filter}
 use Rattle.header.specs.declared.stages.FrontParts.{FrontParts}
 use Rattle.header.specs.declared.stages.FrontStep.{FrontStep}
-use Rattle.header.specs.declared.stages.MiddleParts.{MiddleParts}
+use Rattle.header.specs.declared.stages.MarkingFlags.{MarkingFlags}
+use Rattle.header.specs.declared.stages.MarkingStep.{MarkingStep}
 use Rattle.header.specs.declared.stages.BackParts.{BackParts}
 use Rattle.header.specs.declared.stages.BackStep.{BackStep}
 
@@ -23,13 +26,9 @@ module _ (x : Context) (k : ℕ) where
       bind (activeCounts k .read s d) (λ a e.
       got (record { frame = f; «order_count» = o; «active_counts» = a }) e)))
 
-  -- for lists of n0 and n1 references
-  unfoldable pub middleAt : ℕ → ℕ → Bits → ℕ → Res MiddleParts
-  middleAt n0 n1 s at =
-      bind (modifications x k .read s at) (λ m c.
-      bind (predWeightTable x k n0 n1 .read s c) (λ w d.
-      bind (decRefPicMarking x .read s d) (λ r e.
-      got (record { modifications = m; «pred_weight_table» = w; «dec_ref_pic_marking» = r }) e)))
+  -- the test of a scalable slice, and ref_pic_list_modification_flag_l0
+  unfoldable pub firstFlagAt : Bits → ℕ → Res MarkedFlag
+  firstFlagAt s at = bind (notScalable x .read s at) (λ v c. flagIf (hasL0 k) .read s c)
 
   unfoldable pub backAt : Bits → ℕ → Res BackParts
   backAt s at =
@@ -37,8 +36,13 @@ module _ (x : Context) (k : ℕ) where
       bind (filter x .read s c) (λ f d.
       got (record { quantiser = q; filter = f }) d))
 
-abbrev pub noMiddle : MiddleParts
-noMiddle = record { modifications = noModifications; «pred_weight_table» = noTable; «dec_ref_pic_marking» = noMarking }
+-- the flags of dec_ref_pic_marking( )
+unfoldable pub markingFlagsAt : Context → Bits → ℕ → Res MarkingFlags
+markingFlagsAt x s at =
+    bind (flagIf (x .kind .reference && x .kind .idr) .read s at) (λ n c.
+    bind (flagIf (x .kind .reference && x .kind .idr) .read s c) (λ l d.
+    bind (flagIf (x .kind .reference && not (x .kind .idr)) .read s d) (λ a e.
+    got (record { «no_output_of_prior_pics_flag» = n; «long_term_reference_flag» = l; «adaptive_ref_pic_marking_mode_flag» = a }) e)))
 
 abbrev pub asFront : FrontStep → Res FrontParts
 asFront (FrontStep.Got f c) = got f (c .at)
@@ -47,6 +51,14 @@ asFront (FrontStep.Refused r) = no r
 abbrev pub whyFront : FrontStep → Refusal
 whyFront (FrontStep.Got f c) = none
 whyFront (FrontStep.Refused r) = r
+
+abbrev pub asMarking : MarkingStep → Res MarkingFlags
+asMarking (MarkingStep.Got m c) = got m (c .at)
+asMarking (MarkingStep.Refused r) = no r
+
+abbrev pub whyMarking : MarkingStep → Refusal
+whyMarking (MarkingStep.Got m c) = none
+whyMarking (MarkingStep.Refused r) = r
 
 abbrev pub asBack : BackStep → Res BackParts
 asBack (BackStep.Got b c) = got b (c .at)

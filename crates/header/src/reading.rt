@@ -5,21 +5,36 @@ use crate::lead::lead;
 use crate::lead::why_lead;
 use crate::stages::BackStep;
 use crate::stages::FrontStep;
+use crate::stages::MarkingStep;
 use crate::stages::back;
+use crate::stages::first_flag;
 use crate::stages::front;
-use crate::stages::middle;
+use crate::stages::marking_flags;
+use crate::stages::weights_for;
 use crate::stages::why_back;
 use crate::stages::why_front;
+use crate::stages::why_marking;
 use crate::whole::HeaderRead;
 use crate::whole::no_header;
 use bits::read::Cursor;
 use bits::refusals::NOTHING_FOLLOWS;
 use bits::refusals::Refusal;
 use bits::refusals::refuse;
+use codes::conditions::B;
+use codes::conditions::is_type;
+use codes::fields::flag_if;
 use codes::step::End;
+use codes::step::FlagStep;
 use codes::step::why_end;
+use codes::step::why_flag;
+use lists::marking::marking_kind;
+use lists::modification::modification_kind;
+use lists::operations::operations_if;
 use syntax::context::Context;
 use syntax::context::UnitKind;
+use syntax::record::DecRefPicMarking;
+use syntax::record::Modification;
+use syntax::record::Modifications;
 use syntax::record::SliceHeader;
 ghost use mathlib.Core.Path.{_≡_};
 ghost use Rattle.bits.specs.Bits.{bitsOf};
@@ -36,7 +51,8 @@ fn refused(r: Refusal) -> HeaderRead
     }
 }
 
-// The header at the start of a slice unit's unescaped body, by the table whose arrays are lent.
+// The header at the start of a slice unit's unescaped body, by the table whose arrays are lent. It calls each stage that answers with arrays itself, and makes
+// the record in one literal at the end: a function between them would copy its arrays once more.
 pub fn read_header<'a>(
     s: &'a [u8],
     kind: UnitKind,
@@ -60,25 +76,56 @@ pub fn read_header<'a>(
     let FrontStep::Got(f, c2) = a2 else {
         return refused(why_front(a2));
     };
+    let a3 = first_flag(s, c2, x, l.slice_type);
+    let FlagStep::Got(flag0, c3) = a3 else {
+        return refused(why_flag(a3));
+    };
+    let codes = modification_kind(kind.mvc);
+    let r0 = operations_if(s, c3, flag0.value, codes);
+    let a4 = r0.end;
+    let End::At(c4) = a4 else {
+        return refused(why_end(a4));
+    };
+    let a5 = flag_if(s, c4, is_type(l.slice_type, B));
+    let FlagStep::Got(flag1, c5) = a5 else {
+        return refused(why_flag(a5));
+    };
+    let r1 = operations_if(s, c5, flag1.value, codes);
+    let a6 = r1.end;
+    let End::At(c6) = a6 else {
+        return refused(why_end(a6));
+    };
     let active_counts = f.active_counts;
-    let r3 = middle(s, c2, x, l.slice_type, active_counts);
-    let a3 = r3.end;
-    let End::At(c3) = a3 else {
-        return refused(why_end(a3));
+    let r2 = weights_for(s, c6, x, l.slice_type, active_counts);
+    let a7 = r2.end;
+    let End::At(c7) = a7 else {
+        return refused(why_end(a7));
     };
-    let a4 = back(s, c3, x, l.slice_type);
-    let BackStep::Got(b, c4) = a4 else {
-        return refused(why_back(a4));
+    let a8 = marking_flags(s, c7, x);
+    let MarkingStep::Got(m, c8) = a8 else {
+        return refused(why_marking(a8));
     };
-    if !any_set_after(s, c4.at) {
-        return refused(refuse(NOTHING_FOLLOWS, 0, c4.at));
+    let adaptive = m.adaptive_ref_pic_marking_mode_flag;
+    let r3 = operations_if(s, c8, adaptive.value, marking_kind());
+    let a9 = r3.end;
+    let End::At(c9) = a9 else {
+        return refused(why_end(a9));
+    };
+    let a10 = back(s, c9, x, l.slice_type);
+    let BackStep::Got(b, c10) = a10 else {
+        return refused(why_back(a10));
+    };
+    if !any_set_after(s, c10.at) {
+        return refused(refuse(NOTHING_FOLLOWS, 0, c10.at));
     }
-    let m = r3.middle;
     let frame = f.frame;
     let order_count = f.order_count;
-    let modifications = m.modifications;
-    let pred_weight_table = m.pred_weight_table;
-    let dec_ref_pic_marking = m.dec_ref_pic_marking;
+    let operations0 = r0.list;
+    let operations1 = r1.list;
+    let pred_weight_table = r2.table;
+    let no_output = m.no_output_of_prior_pics_flag;
+    let long_term = m.long_term_reference_flag;
+    let operations = r3.list;
     let quantiser = b.quantiser;
     let filter = b.filter;
     HeaderRead {
@@ -90,12 +137,26 @@ pub fn read_header<'a>(
             frame,
             order_count,
             active_counts,
-            modifications,
+            modifications: Modifications {
+                l0: Modification {
+                    flag: flag0,
+                    operations: operations0,
+                },
+                l1: Modification {
+                    flag: flag1,
+                    operations: operations1,
+                },
+            },
             pred_weight_table,
-            dec_ref_pic_marking,
+            dec_ref_pic_marking: DecRefPicMarking {
+                no_output_of_prior_pics_flag: no_output,
+                long_term_reference_flag: long_term,
+                adaptive_ref_pic_marking_mode_flag: adaptive,
+                operations,
+            },
             quantiser,
             filter,
         },
-        end: End::At(c4),
+        end: End::At(c10),
     }
 }

@@ -1,18 +1,20 @@
-// The parts after pic_parameter_set_id, in three stages.
+// The parts after pic_parameter_set_id, in stages; none of them hands on an array but `weights_for`.
 use bits::read::Cursor;
 use bits::refusals::Refusal;
+use codes::conditions::both;
+use codes::conditions::has_l0;
+use codes::fields::flag_if;
+use codes::fields::not_scalable;
 use codes::step::End;
+use codes::step::FlagStep;
 use codes::step::why_end;
+use codes::step::why_flag;
 use levels::filter::FilterStep;
 use levels::filter::filter;
 use levels::filter::why_filter;
 use levels::quantiser::QuantiserStep;
 use levels::quantiser::quantiser;
 use levels::quantiser::why_quantiser;
-use lists::marking::dec_ref_pic_marking;
-use lists::marking::no_marking;
-use lists::modification::modifications;
-use lists::modification::no_modification;
 use parts::counts::ActiveCountsStep;
 use parts::counts::active_counts;
 use parts::counts::why_active_counts;
@@ -23,26 +25,23 @@ use parts::order::OrderCountStep;
 use parts::order::order_count;
 use parts::order::why_order_count;
 use syntax::context::Context;
+use syntax::marks::MarkedFlag;
 use syntax::marks::MarkedNumber;
 use syntax::record::ActiveCounts;
-use syntax::record::DecRefPicMarking;
 use syntax::record::Filter;
 use syntax::record::Frame;
-use syntax::record::Modifications;
 use syntax::record::OrderCount;
-use syntax::record::PredWeightTable;
 use syntax::record::Quantiser;
 use weights::weights::PredWeightTableRead;
-use weights::weights::no_table;
 use weights::weights::pred_weight_table;
 ghost use mathlib.Core.Path.{_≡_};
 ghost use Prim.Native.Nat.{_+_};
 ghost use Rattle.bits.specs.Bits.{bitsOf};
 ghost use Rattle.bits.specs.Refusals.{pick};
-ghost use Rattle.codes.specs.Steps.{asEnd};
+ghost use Rattle.codes.specs.Steps.{asEnd, asFlag};
 ghost use Rattle.syntax.specs.SliceHeader.{activeOf, activeL0, activeL1, predWeightTable};
 ghost use Rattle.weights.specs.Counts.{atMost32};
-ghost use Rattle.header.specs.Stages.{asFront, whyFront, asBack, whyBack, frontAt, middleAt, backAt, noMiddle};
+ghost use Rattle.header.specs.Stages.{asFront, whyFront, asBack, whyBack, asMarking, whyMarking, frontAt, firstFlagAt, markingFlagsAt, backAt};
 
 // colour_plane_id to num_ref_idx_l1_active_minus1
 pub(crate) struct FrontParts {
@@ -56,16 +55,16 @@ pub(crate) enum FrontStep {
     Refused(Refusal),
 }
 
-// ref_pic_list_modification( ), pred_weight_table( ) and dec_ref_pic_marking( )
-pub(crate) struct MiddleParts {
-    pub(crate) modifications: Modifications,
-    pub(crate) pred_weight_table: PredWeightTable,
-    pub(crate) dec_ref_pic_marking: DecRefPicMarking,
+// The flags of dec_ref_pic_marking( )
+pub(crate) struct MarkingFlags {
+    pub(crate) no_output_of_prior_pics_flag: MarkedFlag,
+    pub(crate) long_term_reference_flag: MarkedFlag,
+    pub(crate) adaptive_ref_pic_marking_mode_flag: MarkedFlag,
 }
 
-pub(crate) struct MiddleRead {
-    pub(crate) middle: MiddleParts,
-    pub(crate) end: End,
+pub(crate) enum MarkingStep {
+    Got(MarkingFlags, Cursor),
+    Refused(Refusal),
 }
 
 // cabac_init_idc to slice_group_change_cycle
@@ -89,6 +88,18 @@ pub(crate) fn why_front(a: FrontStep) -> Refusal
             value: 0,
         },
         FrontStep::Refused(r) => r,
+    }
+}
+
+pub(crate) fn why_marking(a: MarkingStep) -> Refusal
+    ensures { λ r. ⌜ r ≡ whyMarking a ⌝ }
+{
+    match a {
+        MarkingStep::Got(_, _) => Refusal {
+            number: 0,
+            value: 0,
+        },
+        MarkingStep::Refused(r) => r,
     }
 }
 
@@ -149,7 +160,7 @@ fn active(m: MarkedNumber, default: u32) -> u32
 }
 
 // pred_weight_table( ) for the lists' counts.
-fn weights_for(
+pub(crate) fn weights_for(
     s: &[u8],
     c: Cursor,
     x: Context,
@@ -169,57 +180,42 @@ fn weights_for(
     pred_weight_table(s, c, x, slice_type, n0, n1)
 }
 
-fn no_middle(r: Refusal) -> MiddleRead
-    ensures { λ m. ⌜ m ≡ record { middle = noMiddle; end = End.Refused r } ⌝ }
+// ref_pic_list_modification_flag_l0. A scalable slice is refused where it would stand.
+pub(crate) fn first_flag(s: &[u8], c: Cursor, x: Context, slice_type: u32) -> FlagStep
+    ensures { λ r. ⌜ asFlag r ≡ firstFlagAt x «slice_type» (bitsOf (now (s .entry))) (c .at) ⌝ }
 {
-    MiddleRead {
-        middle: MiddleParts {
-            modifications: Modifications {
-                l0: no_modification(),
-                l1: no_modification(),
-            },
-            pred_weight_table: no_table(),
-            dec_ref_pic_marking: no_marking(),
-        },
-        end: End::Refused(r),
-    }
+    let a1 = not_scalable(c, x);
+    let End::At(c1) = a1 else {
+        return FlagStep::Refused(why_end(a1));
+    };
+    flag_if(s, c1, has_l0(slice_type))
 }
 
-pub(crate) fn middle(
-    s: &[u8],
-    c: Cursor,
-    x: Context,
-    slice_type: u32,
-    a: ActiveCounts,
-) -> MiddleRead
-    ensures { λ r. ⌜ asEnd (r .end) (r .middle) ≡ middleAt x «slice_type» (atMost32 (activeL0 x a)) (atMost32 (activeL1 x a)) (bitsOf (now (s .entry))) (c .at) ⌝ }
+// The flags of dec_ref_pic_marking( ): two in an IDR picture, one in any other.
+pub(crate) fn marking_flags(s: &[u8], c: Cursor, x: Context) -> MarkingStep
+    ensures { λ r. ⌜ asMarking r ≡ markingFlagsAt x (bitsOf (now (s .entry))) (c .at) ⌝ }
 {
-    let r1 = modifications(s, c, x, slice_type);
-    let a1 = r1.end;
-    let End::At(c1) = a1 else {
-        return no_middle(why_end(a1));
+    let idr = both(x.kind.reference, x.kind.idr);
+    let a1 = flag_if(s, c, idr);
+    let FlagStep::Got(no_output, c1) = a1 else {
+        return MarkingStep::Refused(why_flag(a1));
     };
-    let r2 = weights_for(s, c1, x, slice_type, a);
-    let a2 = r2.end;
-    let End::At(c2) = a2 else {
-        return no_middle(why_end(a2));
+    let a2 = flag_if(s, c1, idr);
+    let FlagStep::Got(long_term, c2) = a2 else {
+        return MarkingStep::Refused(why_flag(a2));
     };
-    let r3 = dec_ref_pic_marking(s, c2, x);
-    let a3 = r3.end;
-    let End::At(c3) = a3 else {
-        return no_middle(why_end(a3));
+    let a3 = flag_if(s, c2, both(x.kind.reference, !x.kind.idr));
+    let FlagStep::Got(adaptive, c3) = a3 else {
+        return MarkingStep::Refused(why_flag(a3));
     };
-    let modifications = r1.lists;
-    let pred_weight_table = r2.table;
-    let dec_ref_pic_marking = r3.marking;
-    MiddleRead {
-        middle: MiddleParts {
-            modifications,
-            pred_weight_table,
-            dec_ref_pic_marking,
+    MarkingStep::Got(
+        MarkingFlags {
+            no_output_of_prior_pics_flag: no_output,
+            long_term_reference_flag: long_term,
+            adaptive_ref_pic_marking_mode_flag: adaptive,
         },
-        end: End::At(c3),
-    }
+        c3,
+    )
 }
 
 pub(crate) fn back(s: &[u8], c: Cursor, x: Context, slice_type: u32) -> BackStep

@@ -1,30 +1,15 @@
 -- What each stage answers for what reading finds: the part and the place where it ended; beside a refusal the part is not there.
 use Rattle.bits.specs.Refusals.{Res}
 use Rattle.syntax.specs.declared.record.Operations.{Operations}
-use Rattle.syntax.specs.declared.record.Modification.{Modification}
-use Rattle.syntax.specs.declared.record.Modifications.{Modifications}
-use Rattle.syntax.specs.declared.record.DecRefPicMarking.{DecRefPicMarking}
 use Rattle.syntax.specs.declared.record.Prefix.{Prefix}
 use Rattle.syntax.specs.Lists.{noOperations}
 use Rattle.codes.specs.Steps.{beside}
 use Rattle.lists.specs.declared.operations.OperationsRead.{OperationsRead}
-use Rattle.lists.specs.declared.modification.ModificationRead.{ModificationRead}
-use Rattle.lists.specs.declared.modification.ModificationsRead.{ModificationsRead}
-use Rattle.lists.specs.declared.marking.MarkingRead.{MarkingRead}
 use Rattle.lists.specs.declared.prefix.PrefixRead.{PrefixRead}
-use Rattle.lists.specs.Absent.{noModification, noModifications, noMarking, noPrefix}
+use Rattle.lists.specs.Absent.{noPrefix}
 
 abbrev pub operationsAnswer : Res Operations → OperationsRead
 operationsAnswer = beside (λ a e. record { list = a; end = e }) noOperations
-
-abbrev pub modificationAnswer : Res Modification → ModificationRead
-modificationAnswer = beside (λ a e. record { list = a; end = e }) noModification
-
-abbrev pub modificationsAnswer : Res Modifications → ModificationsRead
-modificationsAnswer = beside (λ a e. record { lists = a; end = e }) noModifications
-
-abbrev pub markingAnswer : Res DecRefPicMarking → MarkingRead
-markingAnswer = beside (λ a e. record { marking = a; end = e }) noMarking
 
 abbrev pub bodyAnswer : Res Prefix → PrefixRead
 bodyAnswer = beside (λ a e. record { body = a; end = e }) noPrefix

@@ -113,16 +113,20 @@ pub fn operations(s: &[u8], c: Cursor, kind: ListKind) -> OperationsRead
     }
 }
 
-// A list that is there only under a condition.
+// A list that is there only under a condition. The absent one is written out here: a list that a call hands back is copied once more.
 pub fn operations_if(s: &[u8], c: Cursor, there: bool, kind: ListKind) -> OperationsRead
     ensures { λ r. ⌜ r ≡ operationsAnswer (operationsIf there (kindOf kind) .read (bitsOf (now (s .entry))) (c .at)) ⌝ }
 {
-    if there {
-        operations(s, c, kind)
-    } else {
-        OperationsRead {
-            list: none(),
+    if !there {
+        return OperationsRead {
+            list: Operations {
+                count: 0,
+                codes: [0; 66],
+                first: [0; 66],
+                second: [0; 66],
+            },
             end: End::At(c),
-        }
+        };
     }
+    operations(s, c, kind)
 }
