@@ -11,7 +11,8 @@ extern "C" {
     /// A struct result goes through a pointer that stands first (sets.rs).
     fn tuz_read_unit(
         out: *mut Out,
-        table: &Table,
+        sequences: &[u32; 224],
+        pictures: &[u32; 2048],
         unit: *const u8,
         unit_len: usize,
         scratch: *mut u8,
@@ -19,7 +20,8 @@ extern "C" {
     );
     fn tuz_walk(
         out: *mut Out,
-        table: &Table,
+        sequences: &[u32; 224],
+        pictures: &[u32; 2048],
         recording: *const u8,
         recording_len: usize,
         from: usize,
@@ -47,7 +49,8 @@ pub fn read(unit: &[u8]) -> f64 {
             unsafe {
                 tuz_read_unit(
                     &mut out,
-                    &table,
+                    &table.sequences,
+                    &table.pictures,
                     unit.as_ptr(),
                     unit.len(),
                     scratch.as_mut_ptr(),
@@ -80,7 +83,8 @@ pub fn walk(count: usize, length: usize) -> (f64, f64) {
             unsafe {
                 tuz_walk(
                     &mut out,
-                    &table,
+                    &table.sequences,
+                    &table.pictures,
                     recording.as_ptr(),
                     recording.len(),
                     from,
