@@ -1,14 +1,16 @@
 // The walk over a recording.
 use crate::units::ReadOut;
-use crate::units::read_out;
-use table::table::Table;
+use crate::units::tell;
+use bits::refusals::Refusal;
+use unit::answer::UnitAnswer;
+use unit::answer::only;
+use unit::unit::read_unit_in;
 use walk::walk::Step;
-use walk::walk::Walked;
-use walk::walk::walk_in;
+use walk::walk::next_step;
 ghost use mathlib.Core.Path.{_≡_};
 ghost use Rattle.header.specs.Lead.{tableOf};
-ghost use Rattle.walk.specs.Walked.{walked};
-ghost use Rattle.exports.specs.Walks.{walkOut};
+ghost use Rattle.walk.specs.Walked.{nothing, walked};
+ghost use Rattle.exports.specs.Walks.{came, walkOut};
 
 // A step of the walk. What it does not speak of is zero.
 #[repr(C)]
@@ -26,43 +28,76 @@ pub struct WalkOut {
     pub read: ReadOut,
 }
 
-fn walk_out(w: Walked) -> WalkOut
-    ensures { λ r. ⌜ r ≡ walkOut w ⌝ }
+// The step's part of it.
+struct Came {
+    step: u32,
+    number: u32,
+    value: i64,
+    place: usize,
+    length: usize,
+    next: usize,
+}
+
+fn come(s: Step) -> Came
+    ensures { λ r. ⌜ r ≡ came s ⌝ }
 {
-    let step = w.step;
-    let read = read_out(w.read);
-    match step {
-        Step::Unit(place, length, next) => WalkOut {
+    match s {
+        Step::Unit(place, length, next) => Came {
             step: 1,
             number: 0,
             value: 0,
             place,
             length,
             next,
-            read,
         },
-        Step::End => WalkOut {
+        Step::End => Came {
             step: 0,
             number: 0,
             value: 0,
             place: 0,
             length: 0,
             next: 0,
-            read,
         },
-        Step::Refused(why) => WalkOut {
+        Step::Refused(why) => Came {
             step: 2,
             number: why.number as u32,
             value: why.value,
             place: 0,
             length: 0,
             next: 0,
-            read,
         },
     }
 }
 
-fn walk_unit_out<'a>(
+// A step at which nothing is read.
+fn no_unit(s: Step) -> WalkOut
+    ensures { λ r. ⌜ r ≡ walkOut (nothing s) ⌝ }
+{
+    let c = come(s);
+    let r = only(UnitAnswer::Other(0));
+    let header = r.header;
+    let prefix = r.prefix;
+    WalkOut {
+        step: c.step,
+        number: c.number,
+        value: c.value,
+        place: c.place,
+        length: c.length,
+        next: c.next,
+        read: ReadOut {
+            answer: 0,
+            number: 0,
+            value: 0,
+            bits: 0,
+            header,
+            prefix,
+        },
+    }
+}
+
+// One step of the walk from a place on, by the sets in a table's two arrays. Scratch needs as many bytes as the longest unit has. The records are copied once, as in `tuz_read_unit`.
+#[no_mangle]
+pub extern "C" fn tuz_walk<'a>(
     sequences: &'a [u32; 224],
     pictures: &'a [u32; 2048],
     recording: &[u8],
@@ -71,13 +106,30 @@ fn walk_unit_out<'a>(
 ) -> WalkOut
     ensures { λ r. ⌜ (r ≡ walkOut (walked (tableOf (now (sequences .entry)) (now (pictures .entry))) (now (recording .entry)) from (now (scratch .entry)) .walked)) × (now (scratch .exit) ≡ walked (tableOf (now (sequences .entry)) (now (pictures .entry))) (now (recording .entry)) from (now (scratch .entry)) .left) ⌝ }
 {
-    walk_out(walk_in(sequences, pictures, recording, from, scratch))
-}
-
-// One step of the walk from a place on, by the sets of a lent table. Scratch needs as many bytes as the longest unit has.
-#[no_mangle]
-pub extern "C" fn tuz_walk(t: &Table, recording: &[u8], from: usize, scratch: &mut [u8]) -> WalkOut
-    ensures { λ r. ⌜ (r ≡ walkOut (walked (now (t .entry)) (now (recording .entry)) from (now (scratch .entry)) .walked)) × (now (scratch .exit) ≡ walked (now (t .entry)) (now (recording .entry)) from (now (scratch .entry)) .left) ⌝ }
-{
-    walk_unit_out(&t.sequences, &t.pictures, recording, from, scratch)
+    let step = next_step(recording, from);
+    let Step::Unit(place, length, next) = step else {
+        return no_unit(step);
+    };
+    let end = place + length;
+    let r = read_unit_in(sequences, pictures, &recording[place..end], scratch);
+    let answer = r.answer;
+    let t = tell(answer);
+    let header = r.header;
+    let prefix = r.prefix;
+    WalkOut {
+        step: 1,
+        number: 0,
+        value: 0,
+        place,
+        length,
+        next,
+        read: ReadOut {
+            answer: t.answer,
+            number: t.number,
+            value: t.value,
+            bits: t.bits,
+            header,
+            prefix,
+        },
+    }
 }

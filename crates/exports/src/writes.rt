@@ -1,6 +1,5 @@
 // Writing a slice header.
 use syntax::record::SliceHeader;
-use table::table::Table;
 use writer::given::ExtensionGiven;
 use writer::write::HeaderWrote;
 use writer::write::write_header_in;
@@ -34,7 +33,9 @@ fn wrote_out(a: HeaderWrote) -> WroteOut
     }
 }
 
-fn write_header_out<'a>(
+// A header written by the sets in a table's two arrays, for the unit that the first byte and the extension tell of. A refusal leaves the buffer as it was.
+#[no_mangle]
+pub extern "C" fn tuz_write_header<'a>(
     sequences: &'a [u32; 224],
     pictures: &'a [u32; 2048],
     first: u8,
@@ -45,18 +46,4 @@ fn write_header_out<'a>(
     ensures { λ r. ⌜ (r ≡ wroteOut (writeHeader (tableOf (now (sequences .entry)) (now (pictures .entry))) first extension header (now (out .entry)) .answer)) × (now (out .exit) ≡ writeHeader (tableOf (now (sequences .entry)) (now (pictures .entry))) first extension header (now (out .entry)) .left) ⌝ }
 {
     wrote_out(write_header_in(sequences, pictures, first, extension, header, out))
-}
-
-// A header written by the sets of a lent table, for the unit that the first byte and the extension tell of. A refusal leaves the buffer as it was.
-#[no_mangle]
-pub extern "C" fn tuz_write_header(
-    t: &Table,
-    first: u8,
-    extension: ExtensionGiven,
-    header: SliceHeader,
-    out: &mut [u8],
-) -> WroteOut
-    ensures { λ r. ⌜ (r ≡ wroteOut (writeHeader (now (t .entry)) first extension header (now (out .entry)) .answer)) × (now (out .exit) ≡ writeHeader (now (t .entry)) first extension header (now (out .entry)) .left) ⌝ }
-{
-    write_header_out(&t.sequences, &t.pictures, first, extension, header, out)
 }

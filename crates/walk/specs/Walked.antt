@@ -19,6 +19,15 @@ pub record WalkOut : Type 0 where
   pub walked : Walked
   pub left : List ℕ
 
+-- what the search found, as a step
+abbrev pub stepTo : Found → Step
+stepTo (Found.At place length next) = Step.Unit place length next
+stepTo Found.End = Step.End
+
+-- where the walk comes to: 27 first
+unfoldable pub nextStep : List ℕ → ℕ → Step
+nextStep recording from = pick (leb (length recording) limit) (stepTo (nextUnit recording from)) (Step.Refused (refusal tooLarge (pos 0) 0))
+
 -- a step to no unit: nothing is read
 unfoldable pub nothing : Step → Walked
 nothing s = record { step = s; read = only (UnitAnswer.Other 0) }

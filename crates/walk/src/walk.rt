@@ -12,7 +12,7 @@ use unit::answer::only;
 use unit::unit::read_unit_in;
 ghost use mathlib.Core.Path.{_≡_};
 ghost use Rattle.header.specs.Lead.{tableOf};
-ghost use Rattle.walk.specs.Walked.{nothing, walked};
+ghost use Rattle.walk.specs.Walked.{nextStep, nothing, walked};
 
 // What the walk came to: a unit's place, its length and the place to go on from; the end; or refusal 27.
 pub enum Step {
@@ -25,6 +25,23 @@ pub enum Step {
 pub struct Walked {
     pub step: Step,
     pub read: UnitRead,
+}
+
+// Where the next step comes to, with nothing read: 27 first; then the first unit whose start code begins at `from` or later, or the end.
+pub fn next_step(recording: &[u8], from: usize) -> Step
+    ensures { λ r. ⌜ r ≡ nextStep (now (recording .entry)) from ⌝ }
+{
+    if LIMIT < recording.len() {
+        return Step::Refused(refuse(TOO_LARGE, 0, 0));
+    }
+    match next_unit(recording, from) {
+        Found::At {
+            place,
+            length,
+            next,
+        } => Step::Unit(place, length, next),
+        Found::End => Step::End,
+    }
 }
 
 // A step to no unit.
@@ -47,24 +64,13 @@ pub fn walk_in<'a>(
 ) -> Walked
     ensures { λ r. ⌜ (r ≡ walked (tableOf (now (sequences .entry)) (now (pictures .entry))) (now (recording .entry)) from (now (scratch .entry)) .walked) × (now (scratch .exit) ≡ walked (tableOf (now (sequences .entry)) (now (pictures .entry))) (now (recording .entry)) from (now (scratch .entry)) .left) ⌝ }
 {
-    if LIMIT < recording.len() {
-        return nothing(Step::Refused(refuse(TOO_LARGE, 0, 0)));
-    }
-    match next_unit(recording, from) {
-        Found::At {
-            place,
-            length,
-            next,
-        } => {
-            let end = place + length;
-            let read = read_unit_in(sequences, pictures, &recording[place..end], scratch);
-            Walked {
-                step: Step::Unit(place, length, next),
-                read,
-            }
-        }
-        Found::End => nothing(Step::End),
-    }
+    let step = next_step(recording, from);
+    let Step::Unit(place, length, _) = step else {
+        return nothing(step);
+    };
+    let end = place + length;
+    let read = read_unit_in(sequences, pictures, &recording[place..end], scratch);
+    Walked { step, read }
 }
 
 // One step, by the sets of a table.

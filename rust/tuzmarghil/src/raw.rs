@@ -14,7 +14,8 @@ extern "C" {
     fn tuz_put_picture(table: *mut Table, id: u32, set: Picture) -> ChangedOut;
     fn tuz_read_unit(
         out: *mut ReadOut,
-        table: *const Table,
+        sequences: *const [u32; 224],
+        pictures: *const [u32; 2048],
         unit: *const u8,
         unit_len: usize,
         scratch: *mut u8,
@@ -22,7 +23,8 @@ extern "C" {
     );
     fn tuz_walk(
         out: *mut WalkOut,
-        table: *const Table,
+        sequences: *const [u32; 224],
+        pictures: *const [u32; 2048],
         recording: *const u8,
         recording_len: usize,
         from: usize,
@@ -31,7 +33,8 @@ extern "C" {
     );
     fn tuz_write_header(
         out: *mut WroteOut,
-        table: *const Table,
+        sequences: *const [u32; 224],
+        pictures: *const [u32; 2048],
         first: u8,
         extension: ExtensionGiven,
         header: SliceHeader,
@@ -92,15 +95,17 @@ pub fn put_picture(table: &mut Table, id: u32, set: Picture) -> ChangedOut {
 }
 
 pub fn read_unit(table: &Table, unit: &[u8], scratch: &mut [u8], out: &mut ReadOut) {
+    let (q, p) = (&table.sequences, &table.pictures);
     let (u, s) = (unit.as_ptr(), scratch.as_mut_ptr());
-    // SAFETY: each pointer and length is that of a live slice, and the call requires nothing.
-    unsafe { tuz_read_unit(out, table, u, unit.len(), s, scratch.len()) }
+    // SAFETY: each pointer and length is that of a live slice, the arrays live through the call, and it requires nothing.
+    unsafe { tuz_read_unit(out, q, p, u, unit.len(), s, scratch.len()) }
 }
 
 pub fn walk(table: &Table, recording: &[u8], from: usize, scratch: &mut [u8], out: &mut WalkOut) {
+    let (q, p) = (&table.sequences, &table.pictures);
     let (r, s) = (recording.as_ptr(), scratch.as_mut_ptr());
-    // SAFETY: each pointer and length is that of a live slice, and the call requires nothing.
-    unsafe { tuz_walk(out, table, r, recording.len(), from, s, scratch.len()) }
+    // SAFETY: each pointer and length is that of a live slice, the arrays live through the call, and it requires nothing.
+    unsafe { tuz_walk(out, q, p, r, recording.len(), from, s, scratch.len()) }
 }
 
 pub fn write_header(
@@ -111,8 +116,9 @@ pub fn write_header(
     buffer: &mut [u8],
 ) -> WroteOut {
     let mut out = WroteOut::default();
+    let (q, p) = (&table.sequences, &table.pictures);
     let (b, n) = (buffer.as_mut_ptr(), buffer.len());
-    // SAFETY: the pointer and the length are those of a live slice, and the call requires nothing.
-    unsafe { tuz_write_header(&mut out, table, first, extension, header, b, n) };
+    // SAFETY: the pointer and the length are those of a live slice, the arrays live through the call, and it requires nothing.
+    unsafe { tuz_write_header(&mut out, q, p, first, extension, header, b, n) };
     out
 }

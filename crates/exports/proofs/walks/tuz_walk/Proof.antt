@@ -1,30 +1,75 @@
--- `exports::walks::tuz_walk` meets its contract: it is the shell that lends both arrays of the table to `walk_unit_out`.
-use Rattle.table.proofs.Walking.{_≡_, tripleOf, entered, cited, givenOf, tables, tablesOf}
-use Rattle.table.proofs.Values.{Value, of-struct}
-use Rattle.table.proofs.WalkShell.{walks-meet}
-use Rattle.header.specs.Lead.{tableOf}
-use Rattle.walk.specs.Walked.{walked}
-use Rattle.exports.specs.Walks.{walkOut}
-use Rattle.exports.proofs.walks.WalkOut as N
-use Rattle.exports.proofs.walks.WalkOut.Laws as N′
-use Rattle.exports.proofs.walks.walk_unit_out as g
-use Rattle.exports.proofs.walks.walk_unit_out.Symbol as g-def
-use Rattle.exports.proofs.walks.walk_unit_out.Met as g-thm
-use Rattle.exports.proofs.walks.tuz_walk as f
-use Rattle.exports.proofs.walks.tuz_walk.Key as key
-use Rattle.exports.proofs.walks.tuz_walk.Statement as stated
-use Rattle.exports.proofs.walks.tuz_walk.Code as code
+use mir.Syntax.{w64}
+use mir.Val.{SFits}
+use mir.Facts.{toZ-ofZ}
+use mathlib.Core.Path.{refl, sym, _∙_}
+use native.Mathlib.Omega.{arith}
+use Rattle.walk.proofs.Chain.{Went, went}
+use Rattle.walk.proofs.Steps.{found-at, none-read, was-read}
+use Rattle.exports.specs.Units.{unitOut}
+use Rattle.exports.specs.Walks.{came, walkOut}
+use borrow.Author.Needs.{needs}
+use Rattle.exports.proofs.walks.tuz_walk.Statement.{statement}
+use Rattle.exports.proofs.walks.tuz_walk.Tie as tie
 
-abbrev seen : Value
-seen = of-struct N.the-type N′.the-laws N′.the-plain
+-- what the search found
+found : (c : tie.After-step) → let a = c .before .before .before .before .before .args in let f = c .step .given .0 in Went (a .recording .now) (a .from) (f .0) (f .1 .0) (f .1 .1 .0)
+found c = went _ _ _ _ _ (found-at _ _ (sym (c .before .before .next-step .ensures) ∙ c .step .given .1))
 
-pub tuz-walk-spec : {M : Type 1} → stated.statement M
-unfolding code.routine tablesOf
-tuz-walk-spec 𝓤 H 𝓜 𝓖 𝓡 =
-    entered 𝓤 H (tripleOf 𝓤 H (𝓖 .A) f.signature (f.spec 𝓤 H (𝓖 .A) (𝓜 .mem) (𝓡 .run)))
-    (tables 𝓤 H 𝓜 𝓡 code.env .C) (tables 𝓤 H 𝓜 𝓡 code.env .Λ) key.name code.function (code.unfolded 𝓤 H 𝓜 𝓡)
-    (walks-meet seen g-def.name
-    (λ s p u n y r z. (r ≡ walkOut (walked (tableOf s p) u n y .walked)) × (z ≡ walked (tableOf s p) u n y .left))
-    (λ h u n y r z. (r ≡ walkOut (walked h u n y .walked)) × (z ≡ walked h u n y .left)) (λ h u n y r z e. e)
-    𝓤 H (𝓖 .A) (givenOf 𝓤 H 𝓜 𝓖) (tablesOf 𝓤 H 𝓜 (tables 𝓤 H 𝓜 𝓡 code.env))
-    (cited 𝓤 H (tripleOf 𝓤 H (𝓖 .A) g.signature (g.spec 𝓤 H (𝓖 .A) (𝓜 .mem) (𝓡 .run))) 𝓜 𝓡 code.env g-def.name g-def.routine code.calls-exports·walks·walk-unit-out (g-thm.met 𝓤 H 𝓜 𝓖 𝓡)))
+next-step-requires : tie.Need-next-step-requires
+next-step-requires c κs = search needs
+
+enum-known-step : tie.Need-enum-known-step
+enum-known-step c = search needs
+
+no-unit-requires : tie.Need-no-unit-requires
+no-unit-requires c κs = search needs
+
+returns : tie.Need-returns
+returns c = rw (none-read _ _ _ _ (c .before .before .next-step .ensures) (c .before .match .keys2)) (c .no-unit .ensures, refl)
+
+add-end : tie.Need-add-end
+add-end c = let w = found (c .before) in omega arith
+
+sub-read-unit-in : tie.Need-sub-read-unit-in
+sub-read-unit-in c = search needs
+
+part-read-unit-in-start : tie.Need-part-read-unit-in-start
+part-read-unit-in-start c = search needs
+
+part-read-unit-in-end : tie.Need-part-read-unit-in-end
+part-read-unit-in-end c = let w = found (c .before) in omega arith
+
+read-unit-in-requires : tie.Need-read-unit-in-requires
+read-unit-in-requires c κs = search needs
+
+tell-requires : tie.Need-tell-requires
+tell-requires c κs = search needs
+
+same-length : tie.Need-same-length
+same-length c = search needs
+
+returns-2 : tie.Need-returns-2
+unfolding came unitOut walkOut
+returns-2 c =
+    let e = c .before .before .before in
+    let g = e .before .before .before .read-unit-in .ensures in
+    let d = e .before .before .before .before .before .before .before in
+    let f : SFits w64 (e .tell .result .value) = search needs in
+    rw (was-read _ _ _ _ (sym (d .before .before .next-step .ensures) ∙ d .step .given .1)) (rw (toZ-ofZ f, e .tell .ensures, g .0), g .1)
+
+pub tuz-walk-spec : {M : Type 1} → statement M
+tuz-walk-spec =
+    tie.close
+    (tie.spec
+    next-step-requires
+    enum-known-step
+    no-unit-requires
+    returns
+    add-end
+    sub-read-unit-in
+    part-read-unit-in-start
+    part-read-unit-in-end
+    read-unit-in-requires
+    tell-requires
+    same-length
+    returns-2)
