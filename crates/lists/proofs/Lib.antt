@@ -1,2 +1,4 @@
 pub mod Reading
 pub mod Ends
+pub mod Columns
+pub mod Lent

@@ -1,3 +1,4 @@
 pub mod Kinds
 pub mod Absent
 pub mod Answers
+pub mod Into
