@@ -1,4 +1,3 @@
 pub mod Kinds
 pub mod Lead
-pub mod Whole
 pub mod Stages

@@ -1,4 +1,4 @@
-// The parts after pic_parameter_set_id, in stages; none of them hands on an array but `weights_for`.
+// The parts after pic_parameter_set_id, in stages, but for those with lists. None of them hands on an array.
 use bits::read::Cursor;
 use bits::refusals::Refusal;
 use codes::conditions::both;
@@ -32,54 +32,52 @@ use syntax::record::Filter;
 use syntax::record::Frame;
 use syntax::record::OrderCount;
 use syntax::record::Quantiser;
-use weights::weights::PredWeightTableRead;
-use weights::weights::pred_weight_table;
 ghost use mathlib.Core.Path.{_≡_};
 ghost use Prim.Native.Nat.{_+_};
 ghost use Rattle.bits.specs.Bits.{bitsOf};
 ghost use Rattle.bits.specs.Refusals.{pick};
-ghost use Rattle.codes.specs.Steps.{asEnd, asFlag};
-ghost use Rattle.syntax.specs.SliceHeader.{activeOf, activeL0, activeL1, predWeightTable};
+ghost use Rattle.codes.specs.Steps.{asFlag};
+ghost use Rattle.syntax.specs.SliceHeader.{activeOf};
 ghost use Rattle.weights.specs.Counts.{atMost32};
 ghost use Rattle.header.specs.Stages.{asFront, whyFront, asBack, whyBack, asMarking, whyMarking, frontAt, firstFlagAt, markingFlagsAt, backAt};
 
 // colour_plane_id to num_ref_idx_l1_active_minus1
-pub(crate) struct FrontParts {
-    pub(crate) frame: Frame,
-    pub(crate) order_count: OrderCount,
-    pub(crate) active_counts: ActiveCounts,
+pub struct FrontParts {
+    pub frame: Frame,
+    pub order_count: OrderCount,
+    pub active_counts: ActiveCounts,
 }
 
-pub(crate) enum FrontStep {
+pub enum FrontStep {
     Got(FrontParts, Cursor),
     Refused(Refusal),
 }
 
 // The flags of dec_ref_pic_marking( )
-pub(crate) struct MarkingFlags {
-    pub(crate) no_output_of_prior_pics_flag: MarkedFlag,
-    pub(crate) long_term_reference_flag: MarkedFlag,
-    pub(crate) adaptive_ref_pic_marking_mode_flag: MarkedFlag,
+pub struct MarkingFlags {
+    pub no_output_of_prior_pics_flag: MarkedFlag,
+    pub long_term_reference_flag: MarkedFlag,
+    pub adaptive_ref_pic_marking_mode_flag: MarkedFlag,
 }
 
-pub(crate) enum MarkingStep {
+pub enum MarkingStep {
     Got(MarkingFlags, Cursor),
     Refused(Refusal),
 }
 
 // cabac_init_idc to slice_group_change_cycle
-pub(crate) struct BackParts {
-    pub(crate) quantiser: Quantiser,
-    pub(crate) filter: Filter,
+pub struct BackParts {
+    pub quantiser: Quantiser,
+    pub filter: Filter,
 }
 
-pub(crate) enum BackStep {
+pub enum BackStep {
     Got(BackParts, Cursor),
     Refused(Refusal),
 }
 
 // The refusal of an answer that is one, for a `let .. else`, which cannot bind it.
-pub(crate) fn why_front(a: FrontStep) -> Refusal
+pub fn why_front(a: FrontStep) -> Refusal
     ensures { λ r. ⌜ r ≡ whyFront a ⌝ }
 {
     match a {
@@ -91,7 +89,7 @@ pub(crate) fn why_front(a: FrontStep) -> Refusal
     }
 }
 
-pub(crate) fn why_marking(a: MarkingStep) -> Refusal
+pub fn why_marking(a: MarkingStep) -> Refusal
     ensures { λ r. ⌜ r ≡ whyMarking a ⌝ }
 {
     match a {
@@ -103,7 +101,7 @@ pub(crate) fn why_marking(a: MarkingStep) -> Refusal
     }
 }
 
-pub(crate) fn why_back(a: BackStep) -> Refusal
+pub fn why_back(a: BackStep) -> Refusal
     ensures { λ r. ⌜ r ≡ whyBack a ⌝ }
 {
     match a {
@@ -115,7 +113,7 @@ pub(crate) fn why_back(a: BackStep) -> Refusal
     }
 }
 
-pub(crate) fn front(s: &[u8], c: Cursor, x: Context, slice_type: u32) -> FrontStep
+pub fn front(s: &[u8], c: Cursor, x: Context, slice_type: u32) -> FrontStep
     ensures { λ r. ⌜ asFront r ≡ frontAt x «slice_type» (bitsOf (now (s .entry))) (c .at) ⌝ }
 {
     let a1 = frame(s, c, x);
@@ -153,35 +151,14 @@ fn one_more(n: u32) -> u32
 }
 
 // How many references a list has; more than 32 count as 32.
-fn active(m: MarkedNumber, default: u32) -> u32
+pub fn active(m: MarkedNumber, default: u32) -> u32
     ensures { λ r. ⌜ r ≡ atMost32 (activeOf m default) ⌝ }
 {
     one_more(own_or(m, default))
 }
 
-// pred_weight_table( ) for the lists' counts.
-pub(crate) fn weights_for(
-    s: &[u8],
-    c: Cursor,
-    x: Context,
-    slice_type: u32,
-    a: ActiveCounts,
-) -> PredWeightTableRead
-    ensures { λ r. ⌜ asEnd (r .end) (r .table) ≡ predWeightTable x «slice_type» (atMost32 (activeL0 x a)) (atMost32 (activeL1 x a)) .read (bitsOf (now (s .entry))) (c .at) ⌝ }
-{
-    let n0 = active(
-        a.num_ref_idx_l0_active_minus1,
-        x.picture.num_ref_idx_l0_default_active_minus1,
-    );
-    let n1 = active(
-        a.num_ref_idx_l1_active_minus1,
-        x.picture.num_ref_idx_l1_default_active_minus1,
-    );
-    pred_weight_table(s, c, x, slice_type, n0, n1)
-}
-
 // ref_pic_list_modification_flag_l0. A scalable slice is refused where it would stand.
-pub(crate) fn first_flag(s: &[u8], c: Cursor, x: Context, slice_type: u32) -> FlagStep
+pub fn first_flag(s: &[u8], c: Cursor, x: Context, slice_type: u32) -> FlagStep
     ensures { λ r. ⌜ asFlag r ≡ firstFlagAt x «slice_type» (bitsOf (now (s .entry))) (c .at) ⌝ }
 {
     let a1 = not_scalable(c, x);
@@ -192,7 +169,7 @@ pub(crate) fn first_flag(s: &[u8], c: Cursor, x: Context, slice_type: u32) -> Fl
 }
 
 // The flags of dec_ref_pic_marking( ): two in an IDR picture, one in any other.
-pub(crate) fn marking_flags(s: &[u8], c: Cursor, x: Context) -> MarkingStep
+pub fn marking_flags(s: &[u8], c: Cursor, x: Context) -> MarkingStep
     ensures { λ r. ⌜ asMarking r ≡ markingFlagsAt x (bitsOf (now (s .entry))) (c .at) ⌝ }
 {
     let idr = both(x.kind.reference, x.kind.idr);
@@ -218,7 +195,7 @@ pub(crate) fn marking_flags(s: &[u8], c: Cursor, x: Context) -> MarkingStep
     )
 }
 
-pub(crate) fn back(s: &[u8], c: Cursor, x: Context, slice_type: u32) -> BackStep
+pub fn back(s: &[u8], c: Cursor, x: Context, slice_type: u32) -> BackStep
     ensures { λ r. ⌜ asBack r ≡ backAt x «slice_type» (bitsOf (now (s .entry))) (c .at) ⌝ }
 {
     let a1 = quantiser(s, c, x, slice_type);

@@ -1,4 +1,2 @@
 pub mod Reading
 pub mod Ends
-pub mod Columns
-pub mod Lent

@@ -1,4 +1,3 @@
 pub mod Kinds
 pub mod Absent
 pub mod Answers
-pub mod Into

@@ -3,4 +3,3 @@ pub mod operations; // the loop
 pub mod modification; // the codes of ref_pic_list_modification( )
 pub mod marking; // the codes of dec_ref_pic_marking( )
 pub mod prefix; // prefix_nal_unit_svc( )
-pub mod into; // a list into lent words

@@ -6,8 +6,8 @@ use Rattle.syntax.specs.declared.context.UnitKind.{UnitKind}
 use Rattle.syntax.specs.SliceHeader.{readHeader}
 use Rattle.codes.specs.Steps.{asEnd}
 use Rattle.codes.proofs.Ends.{taken-apart}
-use Rattle.header.specs.declared.whole.HeaderRead.{HeaderRead}
-use Rattle.header.specs.Whole.{headerAnswer}
+use Rattle.reading.specs.declared.whole.HeaderRead.{HeaderRead}
+use Rattle.reading.specs.Whole.{headerAnswer}
 use Rattle.unit.specs.Answer.{sliceAnswer}
 use Rattle.unit.specs.Unit.{sliceBits}
 

@@ -3,7 +3,7 @@ use Rattle.bits.specs.Refusals.{Res, got, no}
 use Rattle.syntax.specs.declared.record.SliceHeader.{SliceHeader}
 use Rattle.syntax.specs.declared.record.Prefix.{Prefix}
 use Rattle.lists.specs.Absent.{noPrefix}
-use Rattle.header.specs.Whole.{noHeader}
+use Rattle.reading.specs.Whole.{noHeader}
 use Rattle.unit.specs.declared.answer.UnitAnswer.{UnitAnswer}
 use Rattle.unit.specs.declared.answer.UnitRead.{UnitRead}
 

@@ -2,10 +2,10 @@
 use bits::refusals::Refusal;
 use codes::step::End;
 use codes::step::why_end;
-use header::whole::HeaderRead;
-use header::whole::no_header;
 use lists::prefix::PrefixRead;
 use lists::prefix::no_prefix;
+use reading::whole::HeaderRead;
+use reading::whole::no_header;
 use syntax::record::Prefix;
 use syntax::record::SliceHeader;
 ghost use mathlib.Core.Path.{_≡_};

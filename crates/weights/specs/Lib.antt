@@ -1,4 +1,3 @@
 pub mod Counts
 pub mod Halves
-pub mod Into
 pub mod Steps

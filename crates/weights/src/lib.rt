@@ -2,4 +2,3 @@
 pub mod weight; // an entry
 pub mod list; // a list of entries
 pub mod weights; // the table
-pub mod into; // the table, its entries in lent words

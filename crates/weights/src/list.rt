@@ -20,7 +20,7 @@ pub struct WeightListRead {
 }
 
 // A count over 32 counts as 32.
-pub(crate) fn at_most_32(n: u32) -> u32
+pub fn at_most_32(n: u32) -> u32
     ensures { λ r. ⌜ r ≡ atMost32 n ⌝ }
 {
     if n <= 32 { n } else { 32 }

@@ -44,7 +44,7 @@ enum ChromaStep {
 }
 
 // The refusal of an answer that is one.
-pub(crate) fn why_weight(a: WeightStep) -> Refusal
+pub fn why_weight(a: WeightStep) -> Refusal
     ensures { λ r. ⌜ r ≡ whyWeight a ⌝ }
 {
     match a {

@@ -1,0 +1,4 @@
+pub mod Columns
+pub mod Lent
+pub mod Entries
+pub mod Stored

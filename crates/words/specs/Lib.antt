@@ -1,0 +1,2 @@
+pub mod ListsLent
+pub mod WeightsLent

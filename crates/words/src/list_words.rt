@@ -1,0 +1,103 @@
+// A list read into words that the caller lends: 66 codes, then the first operands, then the second ones. No list is copied.
+use bits::read::Cursor;
+use bits::read::Read;
+use bits::read::why;
+use bits::refusals::LIST_FULL;
+use bits::refusals::Refusal;
+use bits::refusals::refuse;
+use codes::fields::given;
+use codes::fields::tested;
+use lists::operations::ListKind;
+use lists::operations::has_first;
+use lists::operations::has_second;
+ghost use mathlib.Core.Path.{_≡_};
+ghost use lib.ListN.{replicate};
+ghost use Rattle.bits.specs.Bits.{bitsOf};
+ghost use Rattle.syntax.specs.Lists.{operations, operationsIf};
+ghost use Rattle.lists.specs.Kinds.{kindOf};
+ghost use Rattle.words.specs.ListsLent.{listStep, listLeft, whyList, Filled};
+
+// The count, and the place after the closing code; the list stands in the words.
+pub enum ListStep {
+    Got(u32, Cursor),
+    Refused(Refusal),
+}
+
+pub fn why_list(a: ListStep) -> Refusal
+    ensures { λ r. ⌜ r ≡ whyList a ⌝ }
+{
+    match a {
+        ListStep::Got(_, _) => Refusal {
+            number: 0,
+            value: 0,
+        },
+        ListStep::Refused(r) => r,
+    }
+}
+
+pub fn clear_list(words: &mut [u32; 198])
+    ensures { λ _. ⌜ now (words .exit) ≡ replicate 198 0 ⌝ }
+{
+    *words = [0; 198];
+}
+
+// The loop of `operations`, over words that are clear. After a refusal they hold what was read before it.
+fn fill(s: &[u8], c: Cursor, kind: ListKind, words: &mut [u32; 198]) -> ListStep
+    requires { ⌜ now words ≡ replicate 198 0 ⌝ }
+    ensures { λ r. ⌜ r ≡ listStep (operations (kindOf kind) .read (bitsOf (now (s .entry))) (c .at)) ⌝ }
+    ensures { λ r. ⌜ Filled (operations (kindOf kind) .read (bitsOf (now (s .entry))) (c .at)) (now (words .exit)) ⌝ }
+{
+    let mut count: u32 = 0;
+    let mut at = c;
+    loop {
+        let a = tested(s, at, kind.greatest, kind.number);
+        let Read::Got(code, c1) = a else {
+            return ListStep::Refused(why(a));
+        };
+        if code == kind.closing {
+            at = c1;
+            break;
+        }
+        if 66 <= count {
+            return ListStep::Refused(refuse(LIST_FULL, 0, at.at));
+        }
+        let b = given(s, c1, has_first(kind, code));
+        let Read::Got(x, c2) = b else {
+            return ListStep::Refused(why(b));
+        };
+        let d = given(s, c2, has_second(kind, code));
+        let Read::Got(y, c3) = d else {
+            return ListStep::Refused(why(d));
+        };
+        let i = count as usize;
+        words[i] = code;
+        words[66 + i] = x;
+        words[132 + i] = y;
+        count += 1;
+        at = c3;
+    }
+    ListStep::Got(count, at)
+}
+
+// A list that is there only under a condition. The words are zeros where there is none, and beside a refusal.
+pub fn operations_into(
+    s: &[u8],
+    c: Cursor,
+    there: bool,
+    kind: ListKind,
+    words: &mut [u32; 198],
+) -> ListStep
+    ensures { λ r. ⌜ r ≡ listStep (operationsIf there (kindOf kind) .read (bitsOf (now (s .entry))) (c .at)) ⌝ }
+    ensures { λ r. ⌜ now (words .exit) ≡ listLeft (operationsIf there (kindOf kind) .read (bitsOf (now (s .entry))) (c .at)) ⌝ }
+{
+    clear_list(words);
+    if !there {
+        return ListStep::Got(0, c);
+    }
+    let a = fill(s, c, kind, words);
+    let ListStep::Got(_, _) = a else {
+        clear_list(words);
+        return a;
+    };
+    a
+}
