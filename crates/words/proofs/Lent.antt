@@ -2,6 +2,7 @@
 use Prim.Native.Nat.{ℕ, _+_, _<_}
 use mathlib.Core.Path.{_≡_, refl, ap, _∙_}
 use mathlib.Core.List.{List, _++_}
+use native.Mathlib.Omega.{arith}
 use lib.ListN.{length, set, replicate, length-set, length-replicate}
 use Rattle.bits.specs.declared.read.Cursor.{Cursor}
 use Rattle.bits.specs.declared.refusals.Refusal.{Refusal}
@@ -11,7 +12,7 @@ use Rattle.syntax.specs.declared.record.Operations.{Operations}
 use Rattle.syntax.specs.Lists.{noOperations}
 use Rattle.lists.specs.declared.operations.ListKind.{ListKind}
 use Rattle.words.specs.declared.list_words.ListStep.{ListStep}
-use Rattle.words.specs.ListsLent.{listStep, listLeft, Filled}
+use Rattle.words.specs.ListsLent.{listWords, listStep, listLeft, Filled}
 use Rattle.lists.proofs.Reading.{Reading, started}
 use Rattle.words.proofs.Columns.{entry-stored, equal-columns}
 
@@ -76,3 +77,27 @@ pub left-refused : (m : Res Operations) {a : ListStep} {r : Refusal} {words : Li
 unfolding listStep listLeft
 left-refused (got o e) h g w = cc
 left-refused (no r) h g w = w
+
+-- a stage that reads a list into words, taken apart: the list, or the refusal
+pub record Listed (m : Res Operations) (n : ℕ) (c : Cursor) (words : List ℕ) : Type 0 where
+  pub list : Operations
+  pub read : m ≡ got list (c .at)
+  pub counted : n ≡ list .count
+  pub held : words ≡ listWords list
+
+pub list-read : (m : Res Operations) {a : ListStep} {n : ℕ} {c : Cursor} {words : List ℕ} → a ≡ listStep m → words ≡ listLeft m → a ≡ ListStep.Got n c → Listed m n c words
+unfolding listStep listLeft
+list-read (got o e) {c = c} h w g =
+    let q : c ≡ record { at = e } = cc in
+    record { list = o; read = rw q refl; counted = cc; held = w }
+list-read (no r) h w g = let z : _≡_ {A = ℕ} 0 1 = cc in absurd (omega arith)
+
+pub list-refused : (m : Res Operations) {a : ListStep} {r : Refusal} → a ≡ listStep m → a ≡ ListStep.Refused r → m ≡ no r
+unfolding listStep
+list-refused (got o e) h g = let z : _≡_ {A = ℕ} 0 1 = cc in absurd (omega arith)
+list-refused (no r) h g = cc
+
+pub list-cleared : (m : Res Operations) {a : ListStep} {r : Refusal} {words : List ℕ} → a ≡ listStep m → words ≡ listLeft m → a ≡ ListStep.Refused r → words ≡ replicate 198 0
+unfolding listStep listLeft
+list-cleared (got o e) h w g = let z : _≡_ {A = ℕ} 0 1 = cc in absurd (omega arith)
+list-cleared (no r) h w g = w

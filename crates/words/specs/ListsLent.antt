@@ -7,7 +7,10 @@ use Rattle.bits.specs.declared.refusals.Refusal.{Refusal}
 use Rattle.bits.specs.Refusals.{Res, got, no}
 use Rattle.bits.specs.Answers.{none}
 use Rattle.syntax.specs.declared.record.Operations.{Operations}
+use Rattle.syntax.specs.declared.record.Prefix.{Prefix}
 use Rattle.words.specs.declared.list_words.ListStep.{ListStep}
+use Rattle.words.specs.declared.list_words.PrefixShort.{PrefixShort}
+use Rattle.words.specs.declared.list_words.PrefixStep.{PrefixStep}
 
 -- the codes, then the first operands, then the second ones
 abbrev pub listWords : Operations → List ℕ
@@ -29,3 +32,20 @@ Filled (no r) words = Unit {0}
 abbrev pub whyList : ListStep → Refusal
 whyList (ListStep.Got n c) = none
 whyList (ListStep.Refused r) = r
+
+-- a prefix without its list
+abbrev pub prefixShort : Prefix → PrefixShort
+prefixShort p =
+    record {
+      «store_ref_base_pic_flag» = p .«store_ref_base_pic_flag»;
+      «base_markings» = p .«base_marking» .count;
+      «additional_prefix_nal_unit_extension_flag» = p .«additional_prefix_nal_unit_extension_flag»;
+    }
+
+unfoldable pub prefixStep : Res Prefix → PrefixStep
+prefixStep (got p e) = PrefixStep.Got (prefixShort p) (record { at = e })
+prefixStep (no r) = PrefixStep.Refused r
+
+unfoldable pub prefixLeft : Res Prefix → List ℕ
+prefixLeft (got p e) = listWords (p .«base_marking»)
+prefixLeft (no r) = replicate 198 0

@@ -2,20 +2,26 @@
 use bits::read::Cursor;
 use bits::read::Read;
 use bits::read::why;
+use bits::refusals::BASE_MARKING_OPERATION;
 use bits::refusals::LIST_FULL;
 use bits::refusals::Refusal;
 use bits::refusals::refuse;
+use codes::fields::flag_if;
 use codes::fields::given;
 use codes::fields::tested;
+use codes::step::FlagStep;
+use codes::step::why_flag;
 use lists::operations::ListKind;
 use lists::operations::has_first;
 use lists::operations::has_second;
+use syntax::marks::MarkedFlag;
 ghost use mathlib.Core.Path.{_≡_};
 ghost use lib.ListN.{replicate};
 ghost use Rattle.bits.specs.Bits.{bitsOf};
 ghost use Rattle.syntax.specs.Lists.{operations, operationsIf};
+ghost use Rattle.syntax.specs.Prefix.{baseMarkingKind, prefix};
 ghost use Rattle.lists.specs.Kinds.{kindOf};
-ghost use Rattle.words.specs.ListsLent.{listStep, listLeft, whyList, Filled};
+ghost use Rattle.words.specs.ListsLent.{listStep, listLeft, whyList, Filled, prefixStep, prefixLeft};
 
 // The count, and the place after the closing code; the list stands in the words.
 pub enum ListStep {
@@ -100,4 +106,57 @@ pub fn operations_into(
         return a;
     };
     a
+}
+
+// prefix_nal_unit_svc( ) without its list, of which it has the count.
+#[repr(C)]
+pub struct PrefixShort {
+    pub store_ref_base_pic_flag: MarkedFlag,
+    pub base_markings: u32,
+    pub additional_prefix_nal_unit_extension_flag: MarkedFlag,
+}
+
+pub enum PrefixStep {
+    Got(PrefixShort, Cursor),
+    Refused(Refusal),
+}
+
+fn base_marking_kind() -> ListKind
+    ensures { λ r. ⌜ kindOf r ≡ baseMarkingKind ⌝ }
+{
+    ListKind {
+        closing: 0,
+        greatest: 2,
+        number: BASE_MARKING_OPERATION,
+        marking: false,
+    }
+}
+
+// The body of a prefix unit, there only under a condition. The words are zeros where it has no list, and beside a refusal.
+pub fn prefix_into(s: &[u8], c: Cursor, there: bool, words: &mut [u32; 198]) -> PrefixStep
+    ensures { λ r. ⌜ r ≡ prefixStep (prefix there .read (bitsOf (now (s .entry))) (c .at)) ⌝ }
+    ensures { λ r. ⌜ now (words .exit) ≡ prefixLeft (prefix there .read (bitsOf (now (s .entry))) (c .at)) ⌝ }
+{
+    let a1 = flag_if(s, c, there);
+    let FlagStep::Got(store, c1) = a1 else {
+        clear_list(words);
+        return PrefixStep::Refused(why_flag(a1));
+    };
+    let a2 = operations_into(s, c1, store.value, base_marking_kind(), words);
+    let ListStep::Got(count, c2) = a2 else {
+        return PrefixStep::Refused(why_list(a2));
+    };
+    let a3 = flag_if(s, c2, there);
+    let FlagStep::Got(more, c3) = a3 else {
+        clear_list(words);
+        return PrefixStep::Refused(why_flag(a3));
+    };
+    PrefixStep::Got(
+        PrefixShort {
+            store_ref_base_pic_flag: store,
+            base_markings: count,
+            additional_prefix_nal_unit_extension_flag: more,
+        },
+        c3,
+    )
 }
