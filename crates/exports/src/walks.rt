@@ -2,14 +2,18 @@
 use crate::units::ReadOut;
 use crate::units::tell;
 use bits::refusals::Refusal;
-use unit::answer::UnitAnswer;
-use unit::answer::only;
-use unit::unit::read_unit_in;
+use lent::whole::ShortAnswer;
+use lent::whole::read_unit_into;
 use walk::walk::Step;
 use walk::walk::next_step;
+use words::list_words::clear_list;
+use words::weight_words::clear_weights;
 ghost use mathlib.Core.Path.{_≡_};
 ghost use Rattle.header.specs.Lead.{tableOf};
+ghost use Rattle.unit.specs.declared.answer.UnitAnswer.{UnitAnswer};
+ghost use Rattle.unit.specs.Answer.{only};
 ghost use Rattle.walk.specs.Walked.{nothing, walked};
+ghost use Rattle.lent.specs.Lent.{Words};
 ghost use Rattle.exports.specs.Walks.{came, walkOut};
 
 // A step of the walk. What it does not speak of is zero.
@@ -74,9 +78,7 @@ fn no_unit(s: Step) -> WalkOut
     ensures { λ r. ⌜ r ≡ walkOut (nothing s) ⌝ }
 {
     let c = come(s);
-    let r = only(UnitAnswer::Other(0));
-    let header = r.header;
-    let prefix = r.prefix;
+    let read = tell(ShortAnswer::Other(0));
     WalkOut {
         step: c.step,
         number: c.number,
@@ -84,18 +86,30 @@ fn no_unit(s: Step) -> WalkOut
         place: c.place,
         length: c.length,
         next: c.next,
-        read: ReadOut {
-            answer: 0,
-            number: 0,
-            value: 0,
-            bits: 0,
-            header,
-            prefix,
-        },
+        read,
     }
 }
 
-// One step of the walk from a place on, by the sets in a table's two arrays. Scratch needs as many bytes as the longest unit has. The records are copied once, as in `tuz_read_unit`.
+// The words where nothing is read.
+fn no_words(
+    l0: &mut [u32; 198],
+    l1: &mut [u32; 198],
+    marking: &mut [u32; 198],
+    w0: &mut [i32; 256],
+    w1: &mut [i32; 256],
+    base: &mut [u32; 198],
+)
+    ensures { λ _. ⌜ Words (only (UnitAnswer.Other 0)) (now (l0 .exit)) (now (l1 .exit)) (now (marking .exit)) (now (w0 .exit)) (now (w1 .exit)) (now (base .exit)) ⌝ }
+{
+    clear_list(l0);
+    clear_list(l1);
+    clear_list(marking);
+    clear_weights(w0);
+    clear_weights(w1);
+    clear_list(base);
+}
+
+// One step of the walk from a place on, by the sets in a table's two arrays. Scratch needs as many bytes as the longest unit has. The lists go to six arrays of words, as in `tuz_read_unit`.
 #[no_mangle]
 pub extern "C" fn tuz_walk<'a>(
     sequences: &'a [u32; 224],
@@ -103,19 +117,34 @@ pub extern "C" fn tuz_walk<'a>(
     recording: &[u8],
     from: usize,
     scratch: &mut [u8],
+    l0: &mut [u32; 198],
+    l1: &mut [u32; 198],
+    marking: &mut [u32; 198],
+    w0: &mut [i32; 256],
+    w1: &mut [i32; 256],
+    base: &mut [u32; 198],
 ) -> WalkOut
     ensures { λ r. ⌜ (r ≡ walkOut (walked (tableOf (now (sequences .entry)) (now (pictures .entry))) (now (recording .entry)) from (now (scratch .entry)) .walked)) × (now (scratch .exit) ≡ walked (tableOf (now (sequences .entry)) (now (pictures .entry))) (now (recording .entry)) from (now (scratch .entry)) .left) ⌝ }
+    ensures words { λ r. ⌜ Words (walked (tableOf (now (sequences .entry)) (now (pictures .entry))) (now (recording .entry)) from (now (scratch .entry)) .walked .read) (now (l0 .exit)) (now (l1 .exit)) (now (marking .exit)) (now (w0 .exit)) (now (w1 .exit)) (now (base .exit)) ⌝ }
 {
     let step = next_step(recording, from);
     let Step::Unit(place, length, next) = step else {
+        no_words(l0, l1, marking, w0, w1, base);
         return no_unit(step);
     };
     let end = place + length;
-    let r = read_unit_in(sequences, pictures, &recording[place..end], scratch);
-    let answer = r.answer;
-    let t = tell(answer);
-    let header = r.header;
-    let prefix = r.prefix;
+    let read = tell(read_unit_into(
+        sequences,
+        pictures,
+        &recording[place..end],
+        scratch,
+        l0,
+        l1,
+        marking,
+        w0,
+        w1,
+        base,
+    ));
     WalkOut {
         step: 1,
         number: 0,
@@ -123,13 +152,6 @@ pub extern "C" fn tuz_walk<'a>(
         place,
         length,
         next,
-        read: ReadOut {
-            answer: t.answer,
-            number: t.number,
-            value: t.value,
-            bits: t.bits,
-            header,
-            prefix,
-        },
+        read,
     }
 }

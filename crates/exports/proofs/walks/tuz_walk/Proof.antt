@@ -1,10 +1,8 @@
-use mir.Syntax.{w64}
-use mir.Val.{SFits}
-use mir.Facts.{toZ-ofZ}
 use mathlib.Core.Path.{refl, sym, _∙_}
 use native.Mathlib.Omega.{arith}
 use Rattle.walk.proofs.Chain.{Went, went}
 use Rattle.walk.proofs.Steps.{found-at, none-read, was-read}
+use Rattle.walk.specs.Walked.{nothing}
 use Rattle.exports.specs.Units.{unitOut}
 use Rattle.exports.specs.Walks.{came, walkOut}
 use borrow.Author.Needs.{needs}
@@ -21,26 +19,30 @@ next-step-requires c κs = search needs
 enum-known-step : tie.Need-enum-known-step
 enum-known-step c = search needs
 
+no-words-requires : tie.Need-no-words-requires
+no-words-requires c κs = search needs
+
 no-unit-requires : tie.Need-no-unit-requires
 no-unit-requires c κs = search needs
 
 returns : tie.Need-returns
-returns c = rw (none-read _ _ _ _ (c .before .before .next-step .ensures) (c .before .match .keys2)) (c .no-unit .ensures, refl)
+unfolding nothing
+returns c = rw (none-read _ _ _ _ (c .before .before .before .before .before .before .before .before .before .next-step .ensures) (c .before .before .before .before .before .before .before .before .match .keys2)) ((c .no-unit .ensures, refl), c .before .no-words .ensures)
 
 add-end : tie.Need-add-end
 add-end c = let w = found (c .before) in omega arith
 
-sub-read-unit-in : tie.Need-sub-read-unit-in
-sub-read-unit-in c = search needs
+sub-read-unit-into : tie.Need-sub-read-unit-into
+sub-read-unit-into c = search needs
 
-part-read-unit-in-start : tie.Need-part-read-unit-in-start
-part-read-unit-in-start c = search needs
+part-read-unit-into-start : tie.Need-part-read-unit-into-start
+part-read-unit-into-start c = search needs
 
-part-read-unit-in-end : tie.Need-part-read-unit-in-end
-part-read-unit-in-end c = let w = found (c .before) in omega arith
+part-read-unit-into-end : tie.Need-part-read-unit-into-end
+part-read-unit-into-end c = let w = found (c .before) in omega arith
 
-read-unit-in-requires : tie.Need-read-unit-in-requires
-read-unit-in-requires c κs = search needs
+read-unit-into-requires : tie.Need-read-unit-into-requires
+read-unit-into-requires c κs = search needs
 
 tell-requires : tie.Need-tell-requires
 tell-requires c κs = search needs
@@ -51,11 +53,8 @@ same-length c = search needs
 returns-2 : tie.Need-returns-2
 unfolding came unitOut walkOut
 returns-2 c =
-    let e = c .before .before .before in
-    let g = e .before .before .before .read-unit-in .ensures in
-    let d = e .before .before .before .before .before .before .before in
-    let f : SFits w64 (e .tell .result .value) = search needs in
-    rw (was-read _ _ _ _ (sym (d .before .before .next-step .ensures) ∙ d .step .given .1)) (rw (toZ-ofZ f, e .tell .ensures, g .0), g .1)
+    let g = c .before .before .before .read-unit-into .ensures in
+    rw (was-read _ _ _ _ (sym (c .before .before .before .before .before .before .before .before .before .before .before .before .before .before .before .next-step .ensures) ∙ c .before .before .before .before .before .before .before .before .before .before .before .before .before .step .given .1)) ((rw (c .tell .ensures, g .answered), g .left), g .words)
 
 pub tuz-walk-spec : {M : Type 1} → statement M
 tuz-walk-spec =
@@ -63,13 +62,14 @@ tuz-walk-spec =
     (tie.spec
     next-step-requires
     enum-known-step
+    no-words-requires
     no-unit-requires
     returns
     add-end
-    sub-read-unit-in
-    part-read-unit-in-start
-    part-read-unit-in-end
-    read-unit-in-requires
+    sub-read-unit-into
+    part-read-unit-into-start
+    part-read-unit-into-end
+    read-unit-into-requires
     tell-requires
     same-length
     returns-2)
