@@ -1,6 +1,6 @@
 //! The proved library, through the raw calls of rust/tuzmarghil.
 
-use tuzmarghil::raw::{self, ExtensionGiven, ReadOut, SliceHeader, WalkOut};
+use tuzmarghil::raw::{self, ExtensionGiven, ReadOut, SliceHeader, WalkOut, Words};
 use tuzmarghil::Table;
 
 use crate::peers::Found;
@@ -25,21 +25,41 @@ fn take(found: &mut Found, read: &ReadOut) {
     }
 }
 
-/// Every unit of a recording, its header read and its body unescaped into scratch. `each` sees a unit's place and length, what was read, and scratch.
-fn steps(
-    table: &Table,
-    recording: &[u8],
-    scratch: &mut [u8],
-    mut each: impl FnMut(usize, usize, &ReadOut, &[u8]),
-) {
-    let (mut out, mut from) = (WalkOut::default(), 0);
-    loop {
-        raw::walk(table.as_raw(), recording, from, scratch, &mut out);
-        if out.step != A_UNIT {
-            return;
+/// What a reading is lent: room for a body, and words for lists and weights.
+struct Lent {
+    scratch: Vec<u8>,
+    words: Words,
+}
+
+impl Lent {
+    fn new(longest: usize) -> Lent {
+        Lent {
+            scratch: vec![0; longest],
+            words: Words::default(),
         }
-        each(out.place, out.length, &out.read, scratch);
-        from = out.next;
+    }
+
+    fn of(units: &[&[u8]]) -> Lent {
+        Lent::new(units.iter().map(|u| u.len()).max().unwrap_or(0))
+    }
+
+    fn read(&mut self, table: &Table, unit: &[u8], out: &mut ReadOut) {
+        let (scratch, words) = (&mut self.scratch, &mut self.words);
+        raw::read_unit(table.as_raw(), unit, scratch, words, out);
+    }
+
+    /// Every unit of a recording, its header read and its body unescaped. `each` sees the step, and what it left in what was lent.
+    fn steps(&mut self, table: &Table, recording: &[u8], mut each: impl FnMut(&WalkOut, &Lent)) {
+        let (mut out, mut from) = (WalkOut::default(), 0);
+        loop {
+            let (scratch, words) = (&mut self.scratch, &mut self.words);
+            raw::walk(table.as_raw(), recording, from, scratch, words, &mut out);
+            if out.step != A_UNIT {
+                return;
+            }
+            each(&out, self);
+            from = out.next;
+        }
     }
 }
 
@@ -49,13 +69,13 @@ pub fn walk<'a>(
     recording: &'a [u8],
     longest: usize,
 ) -> impl FnMut() -> Found + 'a {
-    let mut scratch = vec![0; longest];
+    let mut lent = Lent::new(longest);
     move || {
         let mut found = Found::default();
-        steps(table, recording, &mut scratch, |_, length, read, _| {
+        lent.steps(table, recording, |step, _| {
             found.units += 1;
-            found.lengths += length as u64;
-            take(&mut found, read);
+            found.lengths += step.length as u64;
+            take(&mut found, &step.read);
         });
         found
     }
@@ -64,42 +84,37 @@ pub fn walk<'a>(
 /// The sum of the lengths of the slices' bodies, each body compared with what a plain loop makes of the unit; every unit compared with where a plain search found it.
 pub fn compared(table: &Table, recording: &[u8], units: &[(usize, usize)]) -> u64 {
     let longest = units.iter().map(|u| u.1).max().unwrap_or(0);
-    let (mut at, mut bodies, mut scratch) = (0, 0, vec![0; longest]);
-    steps(
-        table,
-        recording,
-        &mut scratch,
-        |place, length, read, scratch| {
-            assert_eq!((place, length), units[at], "unit {at} lies elsewhere");
-            at += 1;
-            if read.answer == SLICE {
-                let mut body = Vec::with_capacity(length);
-                let mut zeros = 0;
-                for &byte in &recording[place + 1..place + length] {
-                    if zeros >= 2 && byte == 3 {
-                        zeros = 0;
-                        continue;
-                    }
-                    zeros = if byte == 0 { zeros + 1 } else { 0 };
-                    body.push(byte);
+    let (mut at, mut bodies) = (0, 0);
+    Lent::new(longest).steps(table, recording, |step, lent| {
+        let (place, length) = (step.place, step.length);
+        assert_eq!((place, length), units[at], "unit {at} lies elsewhere");
+        at += 1;
+        if step.read.answer == SLICE {
+            let mut body = Vec::with_capacity(length);
+            let mut zeros = 0;
+            for &byte in &recording[place + 1..place + length] {
+                if zeros >= 2 && byte == 3 {
+                    zeros = 0;
+                    continue;
                 }
-                assert_eq!(scratch[..body.len()], body, "the body of unit {at}");
-                bodies += body.len() as u64;
+                zeros = if byte == 0 { zeros + 1 } else { 0 };
+                body.push(byte);
             }
-        },
-    );
+            assert_eq!(lent.scratch[..body.len()], body, "the body of unit {at}");
+            bodies += body.len() as u64;
+        }
+    });
     assert_eq!(at, units.len(), "units are missing");
     bodies
 }
 
 /// Slice headers alone, from units whose ends are known.
 pub fn heads<'a>(table: &'a Table, units: &'a [&'a [u8]]) -> impl FnMut() -> Found + 'a {
-    let mut scratch = vec![0; units.iter().map(|u| u.len()).max().unwrap_or(0)];
-    let mut out = ReadOut::default();
+    let (mut lent, mut out) = (Lent::of(units), ReadOut::default());
     move || {
         let mut found = Found::default();
         for unit in units {
-            raw::read_unit(table.as_raw(), unit, &mut scratch, &mut out);
+            lent.read(table, unit, &mut out);
             found.units += 1;
             found.lengths += unit.len() as u64;
             take(&mut found, &out);
@@ -117,27 +132,21 @@ pub struct Header {
 
 /// The headers of units, each held to be written back as it was read.
 pub fn headers(table: &Table, units: &[&[u8]]) -> Vec<Header> {
-    let mut out = ReadOut::default();
+    let (mut lent, mut out) = (Lent::of(units), ReadOut::default());
     let mut buffer = [0; 256];
-    let mut scratch = vec![0; units.iter().map(|u| u.len()).max().unwrap_or(0)];
     let mut headers = Vec::new();
     for unit in units {
-        raw::read_unit(table.as_raw(), unit, &mut scratch, &mut out);
+        lent.read(table, unit, &mut out);
         assert_eq!(out.answer, SLICE, "a unit that is no good slice");
-        let wrote = raw::write_header(
-            table.as_raw(),
-            unit[0],
-            NO_EXTENSION,
-            out.header,
-            &mut buffer,
-        );
+        let record = raw::whole(&out.header, &lent.words);
+        let wrote = raw::write_header(table.as_raw(), unit[0], NO_EXTENSION, record, &mut buffer);
         assert_eq!((wrote.number, wrote.bits), (0, out.bits));
         let (whole, spare) = (out.bits / 8, out.bits % 8);
-        assert_eq!(buffer[..whole], scratch[..whole]);
-        assert!(spare == 0 || (buffer[whole] ^ scratch[whole]) >> (8 - spare) == 0);
+        assert_eq!(buffer[..whole], lent.scratch[..whole]);
+        assert!(spare == 0 || (buffer[whole] ^ lent.scratch[whole]) >> (8 - spare) == 0);
         headers.push(Header {
             first: unit[0],
-            record: out.header,
+            record,
             bits: out.bits,
         });
     }
@@ -163,28 +172,24 @@ pub fn bits(headers: &[Header]) -> usize {
     headers.iter().map(|h| h.bits).sum()
 }
 
-/// A walk in which every slice's header is written again; gives the bits that were written beside what was found.
+/// A walk in which every slice's header is put together and written again; gives the bits that were written beside what was found.
 pub fn rewrite<'a>(
     table: &'a Table,
     recording: &'a [u8],
     longest: usize,
 ) -> impl FnMut() -> (Found, usize) + 'a {
-    let (mut scratch, mut buffer) = (vec![0; longest], [0; 256]);
+    let (mut lent, mut buffer) = (Lent::new(longest), [0; 256]);
     move || {
         let (mut found, mut bits) = (Found::default(), 0);
-        steps(table, recording, &mut scratch, |place, length, read, _| {
+        lent.steps(table, recording, |step, lent| {
             found.units += 1;
-            found.lengths += length as u64;
-            take(&mut found, read);
-            if read.answer == SLICE {
-                let first = recording[place];
-                let wrote = raw::write_header(
-                    table.as_raw(),
-                    first,
-                    NO_EXTENSION,
-                    read.header,
-                    &mut buffer,
-                );
+            found.lengths += step.length as u64;
+            take(&mut found, &step.read);
+            if step.read.answer == SLICE {
+                let first = recording[step.place];
+                let record = raw::whole(&step.read.header, &lent.words);
+                let wrote =
+                    raw::write_header(table.as_raw(), first, NO_EXTENSION, record, &mut buffer);
                 bits += wrote.bits;
             }
         });

@@ -3,13 +3,16 @@ use std::path::{Path, PathBuf};
 use std::process::Command;
 use std::{env, fs};
 
-/// The crate that exports, and the files whose `#[repr(C)]` structs cross the boundary.
+/// The crate that exports, and the files whose `#[repr(C)]` structs cross the boundary (`Prefix` stands among them and does not).
 const EXPORTS: &str = "exports";
-const RECORDS: [&str; 9] = [
+const RECORDS: [&str; 12] = [
     "table/src/sets.rt",
     "table/src/table.rt",
     "syntax/src/marks.rt",
     "syntax/src/record.rt",
+    "words/src/list_words.rt",
+    "words/src/weight_words.rt",
+    "short/src/slice.rt",
     "exports/src/sets.rt",
     "exports/src/units.rt",
     "exports/src/walks.rt",

@@ -1,7 +1,7 @@
 //! What reading a unit answers, as named fields in reading order: one list, which every form is written from.
 
-use tuzmarghil::raw::{MarkedFlag, MarkedNumber, MarkedSigned, Operations, Prefix, ReadOut};
-use tuzmarghil::raw::{SliceHeader, Weight, WeightList};
+use tuzmarghil::raw::{HeaderShort, List, MarkedFlag, MarkedNumber, MarkedSigned, PrefixShort};
+use tuzmarghil::raw::{ReadOut, Weight, Weights, Words};
 use tuzmarghil::NalHeaderExtension;
 
 /// A field's content.
@@ -12,9 +12,9 @@ pub enum Value<'a> {
     Word(&'static str),
     Pair([i32; 2]),
     /// codes, and how many operands each has
-    List(&'a Operations, fn(u32) -> usize),
+    List(List<'a>, fn(u32) -> usize),
     /// the weights of each reference, and whether there are chroma parts
-    Weights(&'a WeightList, bool),
+    Weights(Weights<'a>, bool),
 }
 
 /// A form in which an answer is written.
@@ -89,8 +89,8 @@ pub const NAMES: [&str; 60] = [
     "bits",
 ];
 
-/// Writes the answer for these bytes.
-pub fn write(unit: &[u8], out: &ReadOut, form: &mut impl Form) {
+/// Writes the answer for these bytes, with the words that go with it.
+pub fn write(unit: &[u8], out: &ReadOut, words: &Words, form: &mut impl Form) {
     let mut to = Fields(form);
     match out.answer {
         0 => {
@@ -100,13 +100,13 @@ pub fn write(unit: &[u8], out: &ReadOut, form: &mut impl Form) {
         1 => {
             to.0.kind("slice");
             to.first_byte(unit, true);
-            to.slice(&out.header);
+            to.slice(&out.header, words);
             to.number("bits", out.bits as i64);
         }
         2 => {
             to.0.kind("prefix");
             to.first_byte(unit, false);
-            to.prefix(&out.prefix);
+            to.prefix(&out.prefix, words);
         }
         _ => {
             to.0.kind("refused");
@@ -131,11 +131,11 @@ impl<F: Form> Fields<'_, F> {
         self.put(name, Value::Flag(b));
     }
 
-    fn list(&mut self, name: &'static str, list: &Operations, operands: fn(u32) -> usize) {
+    fn list(&mut self, name: &'static str, list: List<'_>, operands: fn(u32) -> usize) {
         self.put(name, Value::List(list, operands));
     }
 
-    fn weights(&mut self, name: &'static str, list: &WeightList, chroma: bool) {
+    fn weights(&mut self, name: &'static str, list: Weights<'_>, chroma: bool) {
         self.put(name, Value::Weights(list, chroma));
     }
 
@@ -188,10 +188,10 @@ impl<F: Form> Fields<'_, F> {
         }
     }
 
-    fn prefix(&mut self, p: &Prefix) {
+    fn prefix(&mut self, p: &PrefixShort, words: &Words) {
         self.flag_if("store_ref_base_pic_flag", p.store_ref_base_pic_flag);
         if p.store_ref_base_pic_flag.value {
-            self.list("base_mmco", &p.base_marking, |_| 1);
+            self.list("base_mmco", words.base_markings(p), |_| 1);
         }
         self.flag_if(
             "additional_prefix_nal_unit_extension_flag",
@@ -199,7 +199,7 @@ impl<F: Form> Fields<'_, F> {
         );
     }
 
-    fn slice(&mut self, h: &SliceHeader) {
+    fn slice(&mut self, h: &HeaderShort, words: &Words) {
         self.number("first_mb_in_slice", h.first_mb_in_slice);
         self.number("slice_type", h.slice_type);
         self.number("pic_parameter_set_id", h.pic_parameter_set_id);
@@ -238,29 +238,32 @@ impl<F: Form> Fields<'_, F> {
             "num_ref_idx_l1_active_minus1",
             active.num_ref_idx_l1_active_minus1,
         );
-        let (l0, l1) = (&h.modifications.l0, &h.modifications.l1);
-        for (name, list) in [("mods_l0", l0), ("mods_l1", l1)] {
-            if list.flag.there {
-                self.list(name, &list.operations, |_| 1);
-            }
+        let (flag0, flag1) = (
+            h.ref_pic_list_modification_flag_l0,
+            h.ref_pic_list_modification_flag_l1,
+        );
+        if flag0.there {
+            self.list("mods_l0", words.modifications_l0(h), |_| 1);
         }
-        let weights = &h.pred_weight_table;
+        if flag1.there {
+            self.list("mods_l1", words.modifications_l1(h), |_| 1);
+        }
+        let weights = &h.weights;
         if weights.there {
             self.number("luma_log2_weight_denom", weights.luma_log2_weight_denom);
             let chroma = weights.chroma_log2_weight_denom;
             self.number_if("chroma_log2_weight_denom", chroma);
-            self.weights("weights_l0", &weights.l0, chroma.there);
+            self.weights("weights_l0", words.weights_l0(h), chroma.there);
             if h.slice_type % 5 == 1 {
-                self.weights("weights_l1", &weights.l1, chroma.there);
+                self.weights("weights_l1", words.weights_l1(h), chroma.there);
             }
         }
-        let marking = &h.dec_ref_pic_marking;
         self.flag_if(
             "no_output_of_prior_pics_flag",
-            marking.no_output_of_prior_pics_flag,
+            h.no_output_of_prior_pics_flag,
         );
-        self.flag_if("long_term_reference_flag", marking.long_term_reference_flag);
-        let adaptive = marking.adaptive_ref_pic_marking_mode_flag;
+        self.flag_if("long_term_reference_flag", h.long_term_reference_flag);
+        let adaptive = h.adaptive_ref_pic_marking_mode_flag;
         self.flag_if("adaptive_ref_pic_marking_mode_flag", adaptive);
         if adaptive.value {
             let operands = |code| match code {
@@ -268,7 +271,7 @@ impl<F: Form> Fields<'_, F> {
                 5 => 0,
                 _ => 1,
             };
-            self.list("mmco", &marking.operations, operands);
+            self.list("mmco", words.markings(h), operands);
         }
         self.number_if("cabac_init_idc", h.quantiser.cabac_init_idc);
         self.number("slice_qp_delta", h.quantiser.slice_qp_delta);
@@ -285,8 +288,8 @@ impl<F: Form> Fields<'_, F> {
         );
         self.signed_if("slice_beta_offset_div2", filter.slice_beta_offset_div2);
         self.number_if("slice_group_change_cycle", filter.slice_group_change_cycle);
-        self.flag_if("ref_pic_list_modification_flag_l0", l0.flag);
-        self.flag_if("ref_pic_list_modification_flag_l1", l1.flag);
+        self.flag_if("ref_pic_list_modification_flag_l0", flag0);
+        self.flag_if("ref_pic_list_modification_flag_l1", flag1);
     }
 }
 
@@ -327,7 +330,7 @@ impl Value<'_> {
             }
             Value::Weights(list, chroma) => {
                 let mut before = Commas::new();
-                for weight in list.weights() {
+                for weight in list.entries() {
                     before.put(to);
                     match luma(weight) {
                         None => to.push(b'-'),
@@ -370,7 +373,7 @@ impl Value<'_> {
             Value::Weights(list, chroma) => {
                 to.push(b'[');
                 let mut before = Commas::new();
-                for weight in list.weights() {
+                for weight in list.entries() {
                     before.put(to);
                     to.extend_from_slice(b"{\"luma\":");
                     array_or_null(to, luma(weight));
@@ -387,12 +390,12 @@ impl Value<'_> {
 }
 
 /// Weight and offset; nothing where the flag is clear.
-fn luma(w: &Weight) -> Option<[i32; 2]> {
+fn luma(w: Weight) -> Option<[i32; 2]> {
     w.luma_weight_flag.then_some([w.luma_weight, w.luma_offset])
 }
 
 /// Weight and offset of Cb, then of Cr; nothing where the flag is clear.
-fn chroma_of(w: &Weight) -> Option<[i32; 4]> {
+fn chroma_of(w: Weight) -> Option<[i32; 4]> {
     w.chroma_weight_flag
         .then_some([w.cb_weight, w.cb_offset, w.cr_weight, w.cr_offset])
 }
@@ -511,13 +514,13 @@ mod tests {
         h.active_counts.num_ref_idx_active_override_flag = flag;
         h.active_counts.num_ref_idx_l0_active_minus1 = there;
         h.active_counts.num_ref_idx_l1_active_minus1 = there;
-        h.modifications.l0.flag = flag;
-        h.modifications.l1.flag = flag;
-        h.pred_weight_table.there = true;
-        h.pred_weight_table.chroma_log2_weight_denom = there;
-        h.dec_ref_pic_marking.no_output_of_prior_pics_flag = flag;
-        h.dec_ref_pic_marking.long_term_reference_flag = flag;
-        h.dec_ref_pic_marking.adaptive_ref_pic_marking_mode_flag = flag;
+        h.ref_pic_list_modification_flag_l0 = flag;
+        h.ref_pic_list_modification_flag_l1 = flag;
+        h.weights.there = true;
+        h.weights.chroma_log2_weight_denom = there;
+        h.no_output_of_prior_pics_flag = flag;
+        h.long_term_reference_flag = flag;
+        h.adaptive_ref_pic_marking_mode_flag = flag;
         h.quantiser.cabac_init_idc = there;
         h.quantiser.sp_for_switch_flag = flag;
         h.quantiser.slice_qs_delta = signed;
@@ -550,7 +553,7 @@ mod tests {
             (3, [0, 0, 0, 0]),
         ] {
             out.answer = answer;
-            write(&unit, &out, &mut order);
+            write(&unit, &out, &Words::default(), &mut order);
         }
         assert!(NAMES.iter().all(|n| order.1.contains(n)));
     }

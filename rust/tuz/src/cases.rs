@@ -4,7 +4,7 @@ use crate::answer::{self, Text};
 use crate::words;
 use anyhow::{ensure, Context, Result};
 use std::io::{BufRead, Write};
-use tuzmarghil::raw::ReadOut;
+use tuzmarghil::raw::{self, ReadOut, Words};
 use tuzmarghil::{read_unit_raw, write_header, Table, Unit};
 
 pub fn run(cases: &mut impl BufRead, rewrite: bool, to: &mut impl Write) -> Result<()> {
@@ -13,7 +13,7 @@ pub fn run(cases: &mut impl BufRead, rewrite: bool, to: &mut impl Write) -> Resu
     let mut made = String::new();
     let (mut line, mut unit, mut scratch) = (String::new(), Vec::new(), Vec::new());
     let mut said = Vec::new();
-    let mut out = ReadOut::default();
+    let (mut read, mut kept) = (ReadOut::default(), Words::default());
     for number in 1u64.. {
         line.clear();
         if cases.read_line(&mut line).context("reading")? == 0 {
@@ -35,35 +35,35 @@ pub fn run(cases: &mut impl BufRead, rewrite: bool, to: &mut impl Write) -> Resu
         if scratch.len() < unit.len() {
             scratch.resize(unit.len(), 0);
         }
-        read_unit_raw(&table, &unit, &mut scratch, &mut out);
+        read_unit_raw(&table, &unit, &mut scratch, &mut kept, &mut read);
         said.clear();
-        answer::write(&unit, &out, &mut Text(&mut said));
+        answer::write(&unit, &read, &kept, &mut Text(&mut said));
         said.push(b'\n');
         to.write_all(&said)?;
-        if rewrite && out.answer == 1 {
-            rewritten(&table, &unit, &scratch, &out).with_context(place)?;
+        if rewrite && read.answer == 1 {
+            rewritten(&table, &unit, &scratch, &read, &kept).with_context(place)?;
         }
     }
     Ok(())
 }
 
 /// Gives the header that was read Rust's types, takes it back to a record, writes that, and compares: the record, the answer, the bits, and what is left as it was.
-fn rewritten(table: &Table, unit: &[u8], body: &[u8], out: &ReadOut) -> Result<()> {
-    let slice = match Unit::from_raw(unit, out) {
+fn rewritten(table: &Table, unit: &[u8], body: &[u8], read: &ReadOut, words: &Words) -> Result<()> {
+    let slice = match Unit::from_raw(unit, read, words) {
         Ok(Unit::Slice(slice)) => slice,
         _ => return Ok(()),
     };
     ensure!(
-        slice.header.to_raw(table)? == out.header,
+        slice.header.to_raw(table)? == raw::whole(&read.header, words),
         "another record comes back"
     );
     let mut buffer = [0xA5; 6144];
     let first = slice.nal_header;
     let bits = write_header(table, first, slice.extension, &slice.header, &mut buffer)?;
     ensure!(
-        bits == out.bits,
+        bits == read.bits,
         "{bits} bits are written, {} were read",
-        out.bits
+        read.bits
     );
     let (whole, spare) = (bits / 8, bits % 8);
     ensure!(buffer[..whole] == body[..whole], "other bits come back");

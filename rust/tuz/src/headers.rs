@@ -35,14 +35,14 @@ pub fn run(clip: &Clip, format: Format, to: &mut impl Write) -> Result<Totals> {
                 line.extend_from_slice(b" length=");
                 number(&mut line, length);
                 line.push(b' ');
-                answer::write(r.bytes, r.read, &mut Text(&mut line));
+                answer::write(r.bytes, r.read, r.words, &mut Text(&mut line));
             }
             Format::Json => {
                 line.extend_from_slice(b"{\"place\":");
                 number(&mut line, place);
                 line.extend_from_slice(b",\"length\":");
                 number(&mut line, length);
-                answer::write(r.bytes, r.read, &mut Json(&mut line));
+                answer::write(r.bytes, r.read, r.words, &mut Json(&mut line));
                 line.push(b'}');
             }
             Format::Csv => {
@@ -50,7 +50,7 @@ pub fn run(clip: &Clip, format: Format, to: &mut impl Write) -> Result<Totals> {
                 line.push(b',');
                 number(&mut line, length);
                 let mut row = Row(&mut line, &NAMES);
-                answer::write(r.bytes, r.read, &mut row);
+                answer::write(r.bytes, r.read, r.words, &mut row);
                 row.end();
             }
         }

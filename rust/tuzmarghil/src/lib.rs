@@ -39,6 +39,7 @@ mod table;
 mod unit;
 mod unparse;
 mod walk;
+mod words;
 mod write;
 
 pub use nal::{

@@ -1,6 +1,6 @@
 //! Prefix units (type 14).
 
-use crate::raw;
+use crate::raw::{PrefixShort, Words};
 use crate::{NalHeader, NalHeaderExtension};
 
 /// A prefix unit.
@@ -45,7 +45,7 @@ pub enum DecRefBasePicMarkingOp {
 }
 
 impl PrefixNalUnit {
-    pub(crate) fn from_raw(unit: &[u8], p: &raw::Prefix) -> PrefixNalUnit {
+    pub(crate) fn from_raw(unit: &[u8], p: &PrefixShort, words: &Words) -> PrefixNalUnit {
         let store = p.store_ref_base_pic_flag;
         PrefixNalUnit {
             nal_header: NalHeader::from_byte(unit[0]),
@@ -53,8 +53,8 @@ impl PrefixNalUnit {
             ref_base_pic: store.there.then(|| PrefixNalUnitRef {
                 store_ref_base_pic_flag: store.value,
                 dec_ref_base_pic_marking: store.value.then(|| DecRefBasePicMarking {
-                    operations: p
-                        .base_marking
+                    operations: words
+                        .base_markings(p)
                         .entries()
                         .map(|(code, first, _)| match code {
                             1 => DecRefBasePicMarkingOp::ShortTermUnusedForRef {

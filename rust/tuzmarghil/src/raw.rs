@@ -3,6 +3,8 @@
 //! The structs are taken from the Rattle sources by build.rs: nothing is declared twice. What is absent is zero, with its mark `there` clear.
 #![allow(missing_docs)]
 
+pub use crate::words::{whole, List, ListWords, WeightWords, Weights, Words};
+
 include!(concat!(env!("OUT_DIR"), "/records.rs"));
 
 // A struct result of over 16 bytes goes through a pointer that stands first: on x86-64 by the C convention, elsewhere because bench/native-archive compiles the
@@ -20,6 +22,12 @@ extern "C" {
         unit_len: usize,
         scratch: *mut u8,
         scratch_len: usize,
+        l0: *mut ListWords,
+        l1: *mut ListWords,
+        marking: *mut ListWords,
+        w0: *mut WeightWords,
+        w1: *mut WeightWords,
+        base: *mut ListWords,
     );
     fn tuz_walk(
         out: *mut WalkOut,
@@ -30,6 +38,12 @@ extern "C" {
         from: usize,
         scratch: *mut u8,
         scratch_len: usize,
+        l0: *mut ListWords,
+        l1: *mut ListWords,
+        marking: *mut ListWords,
+        w0: *mut WeightWords,
+        w1: *mut WeightWords,
+        base: *mut ListWords,
     );
     fn tuz_write_header(
         out: *mut WroteOut,
@@ -68,7 +82,7 @@ macro_rules! plain {
     )* };
 }
 
-plain!(Table Sequence Picture SequenceOut PictureOut SliceHeader Prefix ReadOut WalkOut WroteOut);
+plain!(Table Sequence Picture SequenceOut PictureOut SliceHeader ReadOut WalkOut WroteOut);
 
 pub fn sequence_at(table: &Table, id: u32) -> SequenceOut {
     let mut out = SequenceOut::default();
@@ -94,18 +108,49 @@ pub fn put_picture(table: &mut Table, id: u32, set: Picture) -> ChangedOut {
     unsafe { tuz_put_picture(table, id, set) }
 }
 
-pub fn read_unit(table: &Table, unit: &[u8], scratch: &mut [u8], out: &mut ReadOut) {
+pub fn read_unit(
+    table: &Table,
+    unit: &[u8],
+    scratch: &mut [u8],
+    words: &mut Words,
+    out: &mut ReadOut,
+) {
     let (q, p) = (&table.sequences, &table.pictures);
-    let (u, s) = (unit.as_ptr(), scratch.as_mut_ptr());
-    // SAFETY: each pointer and length is that of a live slice, the arrays live through the call, and it requires nothing.
-    unsafe { tuz_read_unit(out, q, p, u, unit.len(), s, scratch.len()) }
+    let (u, un) = (unit.as_ptr(), unit.len());
+    let (s, sn) = (scratch.as_mut_ptr(), scratch.len());
+    let Words {
+        l0,
+        l1,
+        marking,
+        w0,
+        w1,
+        base,
+    } = words;
+    // SAFETY: each pointer and length is that of a live slice, the arrays live through the call and lie apart, and it requires nothing.
+    unsafe { tuz_read_unit(out, q, p, u, un, s, sn, l0, l1, marking, w0, w1, base) }
 }
 
-pub fn walk(table: &Table, recording: &[u8], from: usize, scratch: &mut [u8], out: &mut WalkOut) {
+pub fn walk(
+    table: &Table,
+    recording: &[u8],
+    from: usize,
+    scratch: &mut [u8],
+    words: &mut Words,
+    out: &mut WalkOut,
+) {
     let (q, p) = (&table.sequences, &table.pictures);
-    let (r, s) = (recording.as_ptr(), scratch.as_mut_ptr());
-    // SAFETY: each pointer and length is that of a live slice, the arrays live through the call, and it requires nothing.
-    unsafe { tuz_walk(out, q, p, r, recording.len(), from, s, scratch.len()) }
+    let (r, rn) = (recording.as_ptr(), recording.len());
+    let (s, sn) = (scratch.as_mut_ptr(), scratch.len());
+    let Words {
+        l0,
+        l1,
+        marking,
+        w0,
+        w1,
+        base,
+    } = words;
+    // SAFETY: each pointer and length is that of a live slice, the arrays live through the call and lie apart, and it requires nothing.
+    unsafe { tuz_walk(out, q, p, r, rn, from, s, sn, l0, l1, marking, w0, w1, base) }
 }
 
 pub fn write_header(

@@ -1,7 +1,9 @@
 //! The slice header, with Rust's types.
 
 use crate::raw;
-use crate::raw::{MarkedFlag, MarkedNumber, MarkedSigned, Operations, Picture, WeightList};
+use crate::raw::{
+    HeaderShort, List, MarkedFlag, MarkedNumber, MarkedSigned, Picture, Weights, Words,
+};
 
 #[derive(Debug, Clone, Copy, PartialEq, Eq)]
 #[allow(missing_docs)]
@@ -231,8 +233,8 @@ impl SliceHeader {
             .map(|delta| 26 + picture.pic_init_qs_minus26 + delta)
     }
 
-    /// A record that the proved reader gave.
-    pub(crate) fn from_raw(h: &raw::SliceHeader) -> SliceHeader {
+    /// A record that the proved reader gave, and the words that it left.
+    pub(crate) fn from_raw(h: &HeaderShort, words: &Words) -> SliceHeader {
         let (frame, order, active) = (&h.frame, &h.order_count, &h.active_counts);
         let (quantiser, filter) = (&h.quantiser, &h.filter);
         SliceHeader {
@@ -256,9 +258,9 @@ impl SliceHeader {
             redundant_pic_cnt: order.redundant_pic_cnt.get(),
             direct_spatial_mv_pred_flag: active.direct_spatial_mv_pred_flag.get(),
             num_ref_idx_active: num_ref_idx_active(active),
-            ref_pic_list_modification: modifications(&h.modifications),
-            pred_weight_table: pred_weight_table(&h.pred_weight_table),
-            dec_ref_pic_marking: dec_ref_pic_marking(&h.dec_ref_pic_marking),
+            ref_pic_list_modification: modifications(h, words),
+            pred_weight_table: pred_weight_table(h, words),
+            dec_ref_pic_marking: dec_ref_pic_marking(h, words),
             cabac_init_idc: quantiser.cabac_init_idc.get(),
             slice_qp_delta: quantiser.slice_qp_delta,
             sp_for_switch_flag: quantiser.sp_for_switch_flag.get(),
@@ -289,20 +291,6 @@ impl MarkedFlag {
     /// The flag, where it is there.
     pub fn get(self) -> Option<bool> {
         self.there.then_some(self.value)
-    }
-}
-
-impl Operations {
-    /// Codes with their two operands, in order; an operand that a code lacks is 0.
-    pub fn entries(&self) -> impl Iterator<Item = (u32, u32, u32)> + '_ {
-        (0..(self.count as usize).min(66)).map(|i| (self.codes[i], self.first[i], self.second[i]))
-    }
-}
-
-impl WeightList {
-    /// One entry for each active reference.
-    pub fn weights(&self) -> &[raw::Weight] {
-        &self.entries[..(self.count as usize).min(32)]
     }
 }
 
@@ -338,11 +326,14 @@ fn num_ref_idx_active(active: &raw::ActiveCounts) -> Option<NumRefIdxActive> {
     })
 }
 
-fn modifications(m: &raw::Modifications) -> RefPicListModifications {
-    let list = |m: &raw::Modification| {
-        m.flag.value.then(|| {
-            m.operations
-                .entries()
+fn modifications(h: &HeaderShort, words: &Words) -> RefPicListModifications {
+    let (flag0, flag1) = (
+        h.ref_pic_list_modification_flag_l0,
+        h.ref_pic_list_modification_flag_l1,
+    );
+    let list = |flag: MarkedFlag, list: List<'_>| {
+        flag.value.then(|| {
+            list.entries()
                 .map(|(code, operand, _)| match code {
                     0 => ModificationOfPicNums::Subtract(operand),
                     1 => ModificationOfPicNums::Add(operand),
@@ -353,31 +344,33 @@ fn modifications(m: &raw::Modifications) -> RefPicListModifications {
                 .collect()
         })
     };
-    match (m.l0.flag.there, m.l1.flag.there) {
+    let ref_pic_list_modification_l0 = list(flag0, words.modifications_l0(h));
+    match (flag0.there, flag1.there) {
         (false, _) => RefPicListModifications::I,
         (true, false) => RefPicListModifications::P {
-            ref_pic_list_modification_l0: list(&m.l0),
+            ref_pic_list_modification_l0,
         },
         (true, true) => RefPicListModifications::B {
-            ref_pic_list_modification_l0: list(&m.l0),
-            ref_pic_list_modification_l1: list(&m.l1),
+            ref_pic_list_modification_l0,
+            ref_pic_list_modification_l1: list(flag1, words.modifications_l1(h)),
         },
     }
 }
 
-fn pred_weight_table(t: &raw::PredWeightTable) -> Option<PredWeightTable> {
+fn pred_weight_table(h: &HeaderShort, words: &Words) -> Option<PredWeightTable> {
+    let t = &h.weights;
     let chroma = t.chroma_log2_weight_denom.there;
-    let luma_of = |list: &WeightList| {
-        let entry = |w: &raw::Weight| {
+    let luma_of = |list: Weights<'_>| {
+        let entry = |w: raw::Weight| {
             w.luma_weight_flag.then_some(PredWeight {
                 weight: w.luma_weight,
                 offset: w.luma_offset,
             })
         };
-        list.weights().iter().map(entry).collect()
+        list.entries().map(entry).collect()
     };
-    let chroma_of = |list: &WeightList| {
-        let entry = |w: &raw::Weight| match w.chroma_weight_flag {
+    let chroma_of = |list: Weights<'_>| {
+        let entry = |w: raw::Weight| match w.chroma_weight_flag {
             false => vec![],
             true => vec![
                 PredWeight {
@@ -392,31 +385,32 @@ fn pred_weight_table(t: &raw::PredWeightTable) -> Option<PredWeightTable> {
         };
         match chroma {
             false => vec![],
-            true => list.weights().iter().map(entry).collect(),
+            true => list.entries().map(entry).collect(),
         }
     };
     t.there.then(|| PredWeightTable {
         luma_log2_weight_denom: t.luma_log2_weight_denom,
         chroma_log2_weight_denom: t.chroma_log2_weight_denom.get(),
-        luma_weights: luma_of(&t.l0),
-        chroma_weights: chroma_of(&t.l0),
-        luma_weights_l1: luma_of(&t.l1),
-        chroma_weights_l1: chroma_of(&t.l1),
+        luma_weights: luma_of(words.weights_l0(h)),
+        chroma_weights: chroma_of(words.weights_l0(h)),
+        luma_weights_l1: luma_of(words.weights_l1(h)),
+        chroma_weights_l1: chroma_of(words.weights_l1(h)),
     })
 }
 
-fn dec_ref_pic_marking(m: &raw::DecRefPicMarking) -> Option<DecRefPicMarking> {
+fn dec_ref_pic_marking(h: &HeaderShort, words: &Words) -> Option<DecRefPicMarking> {
     use MemoryManagementControlOperation::*;
-    if let Some(no_output_of_prior_pics_flag) = m.no_output_of_prior_pics_flag.get() {
+    if let Some(no_output_of_prior_pics_flag) = h.no_output_of_prior_pics_flag.get() {
         return Some(DecRefPicMarking::Idr {
             no_output_of_prior_pics_flag,
-            long_term_reference_flag: m.long_term_reference_flag.value,
+            long_term_reference_flag: h.long_term_reference_flag.value,
         });
     }
-    Some(match m.adaptive_ref_pic_marking_mode_flag.get()? {
+    Some(match h.adaptive_ref_pic_marking_mode_flag.get()? {
         false => DecRefPicMarking::SlidingWindow,
         true => DecRefPicMarking::Adaptive(
-            m.operations
+            words
+                .markings(h)
                 .entries()
                 .map(|(code, first, second)| match code {
                     1 => ShortTermUnusedForRef {

@@ -4,7 +4,7 @@
 //! that lies whole in the buffer. Nothing is lost by that. Every start code begins a unit and ends the one before it; where the cut takes away a unit's end mark
 //! (`00 00 00` or `00 00 01`), what is left of it are zero bytes, which the walk drops at a recording's end.
 
-use crate::raw::{self, ReadOut, WalkOut};
+use crate::raw::{self, ReadOut, WalkOut, Words};
 use crate::{Table, LIMIT};
 use std::io::{self, Read};
 
@@ -18,6 +18,8 @@ pub struct StreamReport<'a> {
     pub bytes: &'a [u8],
     /// The answer as the proved library gives it: [`crate::Unit::from_raw`] gives it Rust's types.
     pub read: &'a ReadOut,
+    /// The words that go with it.
+    pub words: &'a Words,
 }
 
 /// A recording that is read piece by piece.
@@ -47,7 +49,8 @@ pub struct Stream<R> {
     window: usize,
     at: usize,
     scratch: Vec<u8>,
-    out: Box<WalkOut>,
+    words: Box<Words>,
+    out: WalkOut,
 }
 
 /// How much is read at a time; the buffer grows where a unit is longer.
@@ -70,7 +73,8 @@ impl<R: Read> Stream<R> {
             window: 0,
             at: 0,
             scratch: Vec::new(),
-            out: Box::default(),
+            words: Box::default(),
+            out: WalkOut::default(),
         }
     }
 
@@ -84,8 +88,8 @@ impl<R: Read> Stream<R> {
         loop {
             if self.at < self.window {
                 let window = &self.buffer[..self.window];
-                let out = &mut *self.out;
-                raw::walk(table.as_raw(), window, self.at, &mut self.scratch, out);
+                let (scratch, words, out) = (&mut self.scratch, &mut self.words, &mut self.out);
+                raw::walk(table.as_raw(), window, self.at, scratch, words, out);
                 if out.step != 1 {
                     self.at = self.window;
                     continue;
@@ -108,8 +112,8 @@ impl<R: Read> Stream<R> {
                         let (from, to) = (3, 3 + length as usize);
                         lengthen(&mut self.scratch, to);
                         let bytes = &self.buffer[from..to];
-                        let read = &mut self.out.read;
-                        raw::read_unit(table.as_raw(), bytes, &mut self.scratch, read);
+                        let (words, read) = (&mut self.words, &mut self.out.read);
+                        raw::read_unit(table.as_raw(), bytes, &mut self.scratch, words, read);
                         return Ok(Some(self.report(from, to)));
                     }
                 }
@@ -123,6 +127,7 @@ impl<R: Read> Stream<R> {
             length: (to - from) as u64,
             bytes: &self.buffer[from..to],
             read: &self.out.read,
+            words: &self.words,
         }
     }
 
@@ -215,11 +220,13 @@ impl<R: Read> Stream<R> {
     fn too_long(&mut self, place: u64, length: u64) -> StreamReport<'_> {
         self.out.read = ReadOut::default();
         (self.out.read.answer, self.out.read.number) = (3, 27);
+        *self.words = Words::default();
         StreamReport {
             place,
             length,
             bytes: &[],
             read: &self.out.read,
+            words: &self.words,
         }
     }
 }
@@ -283,6 +290,22 @@ mod tests {
             self.0 = &self.0[n..];
             Ok(n)
         }
+    }
+
+    /// A unit over the limit is read by no proved code: what the one before it left is gone all the same.
+    #[test]
+    fn too_long_leaves_nothing() {
+        let mut s = vec![0, 0, 1, 0x6E, 0x80, 0, 7, 0xA3, 0x40]; // a prefix unit with one base marking
+        s.extend([0, 0, 1].iter().chain(&[0x65; 30]));
+        let mut stream = Stream::with(&s[..], 12, 20);
+        let table = Table::new();
+        let prefix = stream.next(&table).unwrap().unwrap();
+        let told = (prefix.read.answer, prefix.read.prefix.base_markings);
+        assert_eq!((told, prefix.words.base[0]), ((2, 1), 1));
+        let long = stream.next(&table).unwrap().unwrap();
+        assert_eq!((long.length, long.read.number), (30, 27));
+        assert_eq!(long.read.prefix, ReadOut::default().prefix);
+        assert_eq!(*long.words, Words::default());
     }
 
     #[test]

@@ -1,6 +1,6 @@
 //! Whole units.
 
-use crate::raw::{self, ReadOut};
+use crate::raw::{self, ReadOut, Words};
 use crate::{NalHeader, NalHeaderExtension, PrefixNalUnit, Refusal, SliceHeader, Table, UnitType};
 
 /// What a unit holds.
@@ -47,29 +47,39 @@ pub fn read_unit(table: &Table, unit: &[u8], scratch: &mut Vec<u8>) -> Result<Un
     if scratch.len() < unit.len() {
         scratch.resize(unit.len(), 0);
     }
-    let mut out = ReadOut::default();
-    read_unit_raw(table, unit, scratch, &mut out);
-    Unit::from_raw(unit, &out)
+    let (mut words, mut out) = (Words::default(), ReadOut::default());
+    read_unit_raw(table, unit, scratch, &mut words, &mut out);
+    Unit::from_raw(unit, &out, &words)
 }
 
-/// The same, with the answer as the proved library gives it, into a record that can be used again. Scratch shorter than the unit is refusal 26.
-pub fn read_unit_raw(table: &Table, unit: &[u8], scratch: &mut [u8], out: &mut ReadOut) {
-    raw::read_unit(table.as_raw(), unit, scratch, out)
+/// The same, with the answer as the proved library gives it, into words and a record that can be used again. Scratch shorter than the unit is refusal 26.
+pub fn read_unit_raw(
+    table: &Table,
+    unit: &[u8],
+    scratch: &mut [u8],
+    words: &mut Words,
+    out: &mut ReadOut,
+) {
+    raw::read_unit(table.as_raw(), unit, scratch, words, out)
 }
 
 impl Unit {
-    /// What an answer for these bytes says.
-    pub fn from_raw(unit: &[u8], out: &ReadOut) -> Result<Unit, Refusal> {
+    /// What an answer for these bytes says, with the words that it left.
+    pub fn from_raw(unit: &[u8], out: &ReadOut, words: &Words) -> Result<Unit, Refusal> {
         let first = unit.first().copied().unwrap_or(0);
         match out.answer {
             0 => Ok(Unit::Other(UnitType::for_id(out.number as u8))),
             1 => Ok(Unit::Slice(Box::new(Slice {
                 nal_header: NalHeader::from_byte(first),
                 extension: NalHeaderExtension::of_unit(unit),
-                header: SliceHeader::from_raw(&out.header),
+                header: SliceHeader::from_raw(&out.header, words),
                 bits: out.bits,
             }))),
-            2 => Ok(Unit::Prefix(PrefixNalUnit::from_raw(unit, &out.prefix))),
+            2 => Ok(Unit::Prefix(PrefixNalUnit::from_raw(
+                unit,
+                &out.prefix,
+                words,
+            ))),
             _ => Err(Refusal {
                 number: out.number,
                 value: out.value,

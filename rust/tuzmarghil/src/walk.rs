@@ -1,6 +1,6 @@
 //! The units of a recording.
 
-use crate::raw::{self, WalkOut};
+use crate::raw::{self, WalkOut, Words};
 use crate::{Refusal, Table, Unit, LIMIT};
 
 /// A unit of a recording.
@@ -40,7 +40,8 @@ pub fn reports<'a>(table: &'a Table, recording: &'a [u8]) -> Result<Reports<'a>,
         recording,
         from: 0,
         scratch: vec![0; recording.len()],
-        out: Box::default(),
+        words: Box::default(),
+        out: WalkOut::default(),
     })
 }
 
@@ -50,19 +51,21 @@ pub struct Reports<'a> {
     recording: &'a [u8],
     from: usize,
     scratch: Vec<u8>,
-    out: Box<WalkOut>,
+    words: Box<Words>,
+    out: WalkOut,
 }
 
 impl Iterator for Reports<'_> {
     type Item = Report;
 
     fn next(&mut self) -> Option<Report> {
-        let out = &mut *self.out;
+        let out = &mut self.out;
         raw::walk(
             self.table.as_raw(),
             self.recording,
             self.from,
             &mut self.scratch,
+            &mut self.words,
             out,
         );
         if out.step != 1 {
@@ -73,7 +76,7 @@ impl Iterator for Reports<'_> {
         Some(Report {
             place: out.place,
             length: out.length,
-            unit: Unit::from_raw(bytes, &out.read),
+            unit: Unit::from_raw(bytes, &out.read, &self.words),
         })
     }
 }

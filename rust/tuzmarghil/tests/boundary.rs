@@ -98,9 +98,8 @@ impl Bits {
     }
 }
 
-/// A B field of type 20, with every list, by sets that ask for every field that a B slice can have.
-#[test]
-fn fields_arrive() {
+/// A B field of type 20, with every list, by sets that ask for every field that a B slice can have: the table, the unit, the header's length in bits, the picture set.
+fn b_field() -> (Table, Vec<u8>, usize, Picture) {
     let mut table = Table::new();
     let sequence = Sequence {
         chroma_format_idc: 1,
@@ -137,8 +136,55 @@ fn fields_arrive() {
     b.ue(2).se(-9).ue(3).se(-6).se(5).u(4, 11); // cabac_init_idc, QP, deblocking, change cycle
     let bits = b.0.len();
     b.u(8, 0xFF);
+    (table, b.unit(&[0x74, 0x45, 0xA1, 0x57]), bits, picture)
+}
 
-    let unit = b.unit(&[0x74, 0x45, 0xA1, 0x57]);
+/// A prefix unit with base marking.
+fn prefix_unit() -> Vec<u8> {
+    let mut b = Bits::default();
+    b.u(1, 1).ue(1).ue(61).ue(2).ue(62).ue(0).u(1, 1);
+    b.unit(&[0x6E, 0xD2, 0xA9, 0x74])
+}
+
+/// The entries of a list or of weights as they stand in words, which are zeros elsewhere.
+fn list(entries: &[(u32, u32, u32)]) -> raw::ListWords {
+    let mut words = [0; 198];
+    for (i, (code, first, second)) in entries.iter().enumerate() {
+        (words[i], words[66 + i], words[132 + i]) = (*code, *first, *second);
+    }
+    words
+}
+
+fn weights(entries: &[[i32; 8]]) -> raw::WeightWords {
+    let mut words = [0; 256];
+    for (i, entry) in entries.iter().enumerate() {
+        words[8 * i..][..8].copy_from_slice(entry);
+    }
+    words
+}
+
+/// The words that `b_field` leaves.
+fn b_field_words() -> raw::Words {
+    raw::Words {
+        l0: list(&[(0, 21, 0), (5, 22, 0)]),
+        l1: list(&[(1, 23, 0), (2, 24, 0), (4, 25, 0)]),
+        marking: list(&[
+            (1, 51, 0),
+            (2, 52, 0),
+            (3, 53, 54),
+            (4, 55, 0),
+            (5, 0, 0),
+            (6, 56, 0),
+        ]),
+        w0: weights(&[[1, -31, 32, 0, 0, 0, 0, 0], [0, 0, 0, 1, 33, -34, 35, -36]]),
+        w1: weights(&[[1, 37, 38, 1, 39, 40, 41, 42]]),
+        base: [0; 198],
+    }
+}
+
+#[test]
+fn fields_arrive() {
+    let (table, unit, bits, picture) = b_field();
     let mut scratch = Vec::new();
     let slice = match read_unit(&table, &unit, &mut scratch) {
         Ok(Unit::Slice(slice)) => slice,
@@ -220,17 +266,102 @@ fn fields_arrive() {
     assert_eq!(slice.header.slice_qp(&picture), 13);
 
     // and back to the record that the library gave
-    let mut out = raw::ReadOut::default();
-    read_unit_raw(&table, &unit, &mut scratch, &mut out);
-    assert_eq!(slice.header.to_raw(&table), Ok(out.header));
+    let (mut words, mut out) = (raw::Words::default(), raw::ReadOut::default());
+    read_unit_raw(&table, &unit, &mut scratch, &mut words, &mut out);
+    assert_eq!(
+        slice.header.to_raw(&table),
+        Ok(raw::whole(&out.header, &words))
+    );
+}
+
+/// Words that hold something everywhere, so that it shows what a reading leaves there.
+fn full() -> raw::Words {
+    raw::Words {
+        l0: [7; 198],
+        l1: [8; 198],
+        marking: [9; 198],
+        w0: [-7; 256],
+        w1: [-8; 256],
+        base: [6; 198],
+    }
+}
+
+/// Units of every answer, with the answer and the words that go with it.
+fn answers(slice: &[u8]) -> [(Vec<u8>, u32, raw::Words); 5] {
+    let none = raw::Words::default();
+    let of_prefix = raw::Words {
+        base: list(&[(1, 61, 0), (2, 62, 0)]),
+        ..none.clone()
+    };
+    // its bits run out after all lists are read
+    let torn = slice[..slice.len() - 3].to_vec();
+    [
+        (slice.to_vec(), 1, b_field_words()),
+        (prefix_unit(), 2, of_prefix),
+        (torn, 3, none.clone()),
+        (vec![0x09, 0xF0], 0, none.clone()),
+        (vec![], 3, none),
+    ]
+}
+
+/// Words hold what belongs to the answer and zeros elsewhere, whatever they held before.
+#[test]
+fn words_arrive() {
+    let (table, slice, ..) = b_field();
+    let (mut scratch, mut out) = (vec![0; slice.len()], raw::ReadOut::default());
+    for (unit, answer, want) in answers(&slice) {
+        let mut words = full();
+        read_unit_raw(&table, &unit, &mut scratch, &mut words, &mut out);
+        assert_eq!((out.answer, &words), (answer, &want));
+        let (h, p) = (&out.header, &out.prefix);
+        let lists = [h.modifications_l0, h.modifications_l1, h.markings];
+        let weights = [h.weights.l0, h.weights.l1];
+        let counts = match answer {
+            1 => ([2, 3, 6], [2, 1], 0),
+            2 => ([0; 3], [0; 2], 2),
+            _ => ([0; 3], [0; 2], 0),
+        };
+        assert_eq!((lists, weights, p.base_markings), counts);
+    }
+}
+
+/// A walk leaves the same words, and so do those who keep words for many units.
+#[test]
+fn words_of_a_walk() {
+    let (table, slice, ..) = b_field();
+    let answers = answers(&slice);
+    let recording: Vec<u8> = answers
+        .iter()
+        .flat_map(|(unit, ..)| [&[0, 0, 1][..], unit].concat())
+        .collect();
+    let mut scratch = vec![0; recording.len()];
+    let (mut step, mut from) = (raw::WalkOut::default(), 0);
+    let mut walk = |step: &mut raw::WalkOut, from| {
+        let mut words = full();
+        let to = &mut words;
+        raw::walk(table.as_raw(), &recording, from, &mut scratch, to, step);
+        words
+    };
+    let mut reports = reports(&table, &recording).unwrap();
+    let mut stream = Stream::new(&recording[..]);
+    for (unit, answer, want) in &answers {
+        let words = walk(&mut step, from);
+        assert_eq!((step.step, step.read.answer, &words), (1, *answer, want));
+        from = step.next;
+        let typed = read_unit(&table, unit, &mut Vec::new());
+        assert_eq!(reports.next().unwrap().unit, typed);
+        let report = stream.next(&table).unwrap().unwrap();
+        assert_eq!((report.bytes, report.words), (&unit[..], want));
+        assert_eq!(*report.read, step.read);
+    }
+    let words = walk(&mut step, from);
+    assert_eq!((step.step, words), (0, raw::Words::default()));
+    assert!(reports.next().is_none() && stream.next(&table).unwrap().is_none());
 }
 
 #[test]
 fn prefix_arrives() {
-    let mut b = Bits::default();
-    b.u(1, 1).ue(1).ue(61).ue(2).ue(62).ue(0).u(1, 1);
-    let unit = b.unit(&[0x6E, 0xD2, 0xA9, 0x74]);
-    let prefix = match read_unit(&Table::new(), &unit, &mut Vec::new()) {
+    let prefix = match read_unit(&Table::new(), &prefix_unit(), &mut Vec::new()) {
         Ok(Unit::Prefix(prefix)) => prefix,
         other => panic!("{other:?}"),
     };
