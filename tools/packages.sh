@@ -4,8 +4,8 @@
 rust_packages="librust-anyhow-dev librust-clap-dev librust-console-dev librust-csv-dev librust-indicatif-dev librust-plotters-dev librust-serde-json-dev"
 cargo --version >/dev/null 2>&1 || rust_packages="$rust_packages cargo rustc"
 command -v cc >/dev/null 2>&1 || rust_packages="$rust_packages gcc libc6-dev"
-# The libraries of the oracle, and the encoder that made the clips.
-oracle_packages="librust-bitstream-io-dev librust-memchr-dev x264"
+# The libraries of the oracle, the encoder that made the clips, and ffmpeg, for longer clips to tear.
+oracle_packages="librust-bitstream-io-dev librust-memchr-dev x264 ffmpeg"
 # The peers of the benchmark, and what compiles them.
 peer_packages="gcc pkg-config libgstreamer-plugins-bad1.0-dev libavcodec-dev"
 
