@@ -1,33 +1,39 @@
 -- A list in lent words: what reading it answers, and what it leaves in them.
 use Prim.Native.Nat.{ℕ}
 use mathlib.Core.Path.{_≡_}
-use mathlib.Core.List.{List, _++_}
+use mathlib.Core.List.{List, [], _∷_, flatMap}
 use lib.ListN.{replicate}
+use lib.Seq.{sets}
 use Rattle.bits.specs.declared.refusals.Refusal.{Refusal}
 use Rattle.bits.specs.Refusals.{Res, got, no}
 use Rattle.bits.specs.Answers.{none}
 use Rattle.syntax.specs.declared.record.Operations.{Operations}
 use Rattle.syntax.specs.declared.record.Prefix.{Prefix}
+use Rattle.syntax.specs.Lists.{Operation, ofOperations}
+use Rattle.words.specs.Leaves.{leaves}
 use Rattle.words.specs.declared.list_words.ListStep.{ListStep}
 use Rattle.words.specs.declared.list_words.PrefixShort.{PrefixShort}
 use Rattle.words.specs.declared.list_words.PrefixStep.{PrefixStep}
 
--- the codes, then the first operands, then the second ones
-abbrev pub listWords : Operations → List ℕ
-listWords o = o .codes ++ (o .first ++ o .second)
+-- three words an entry: its code and its two operands
+abbrev pub operationWords : Operation → List ℕ
+operationWords p = p .0 ∷ p .1 .0 ∷ p .1 .1 ∷ []
+
+-- the words of the entries in use
+unfoldable pub listWords : Operations → List ℕ
+listWords o = flatMap operationWords (ofOperations o)
 
 unfoldable pub listStep : Res Operations → ListStep
 listStep (got o e) = ListStep.Got (o .count) (record { at = e })
 listStep (no r) = ListStep.Refused r
 
-unfoldable pub listLeft : Res Operations → List ℕ
-listLeft (got o e) = listWords o
-listLeft (no r) = replicate 198 0
+abbrev pub listLeft : Res Operations → List ℕ → List ℕ
+listLeft = leaves (replicate 198 0) listWords
 
 -- the words hold a list that was read; after a refusal nothing is said of them
-unfoldable pub Filled : Res Operations → List ℕ → Type 0
-Filled (got o e) words = words ≡ listWords o
-Filled (no r) words = Unit {0}
+unfoldable pub Filled : Res Operations → List ℕ → List ℕ → Type 0
+Filled (got o e) before words = words ≡ sets before 0 (listWords o)
+Filled (no r) before words = Unit {0}
 
 abbrev pub whyList : ListStep → Refusal
 whyList (ListStep.Got n c) = none
@@ -46,6 +52,5 @@ unfoldable pub prefixStep : Res Prefix → PrefixStep
 prefixStep (got p e) = PrefixStep.Got (prefixShort p) (record { at = e })
 prefixStep (no r) = PrefixStep.Refused r
 
-unfoldable pub prefixLeft : Res Prefix → List ℕ
-prefixLeft (got p e) = listWords (p .«base_marking»)
-prefixLeft (no r) = replicate 198 0
+abbrev pub prefixLeft : Res Prefix → List ℕ → List ℕ
+prefixLeft = leaves (replicate 198 0) (λ p. listWords (p .«base_marking»))

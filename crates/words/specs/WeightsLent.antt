@@ -2,13 +2,14 @@
 use mathlib.Core.Bool.{Bool}
 use mathlib.Core.List.{List, [], _∷_, flatMap}
 use lib.IntN.{ℤ, pos}
-use lib.ListN.{replicate}
+use lib.ListN.{take, replicate}
 use Rattle.bits.specs.Refusals.{Res, got, no, pick}
 use Rattle.bits.specs.Answers.{none}
 use Rattle.bits.specs.declared.refusals.Refusal.{Refusal}
 use Rattle.syntax.specs.declared.record.Weight.{Weight}
 use Rattle.syntax.specs.declared.record.WeightList.{WeightList}
 use Rattle.syntax.specs.declared.record.PredWeightTable.{PredWeightTable}
+use Rattle.words.specs.Leaves.{leaves}
 use Rattle.words.specs.declared.weight_words.WeightsShort.{WeightsShort}
 use Rattle.words.specs.declared.weight_words.WeightsStep.{WeightsStep}
 use Rattle.words.specs.declared.weight_words.ListStep.{ListStep}
@@ -21,14 +22,13 @@ entryWords w =
     flagWord (w .«luma_weight_flag») ∷ w .«luma_weight» ∷ w .«luma_offset»
     ∷ flagWord (w .«chroma_weight_flag») ∷ w .«cb_weight» ∷ w .«cb_offset» ∷ w .«cr_weight» ∷ w .«cr_offset» ∷ []
 
--- the words of all 32 entries
+-- the words of the entries in use
 unfoldable pub weightWords : WeightList → List ℤ
-weightWords l = flatMap entryWords (l .entries)
+weightWords l = flatMap entryWords (take (l .count) (l .entries))
 
--- what is left in a list's words: zeros beside a refusal
-unfoldable pub weightsLeft : (PredWeightTable → WeightList) → Res PredWeightTable → List ℤ
-weightsLeft list (got t e) = weightWords (list t)
-weightsLeft list (no r) = replicate 256 (pos 0)
+-- what is left in a list's words
+abbrev pub weightsLeft : (PredWeightTable → WeightList) → Res PredWeightTable → List ℤ → List ℤ
+weightsLeft list = leaves (replicate 256 (pos 0)) (λ t. weightWords (list t))
 
 abbrev pub weightsShort : PredWeightTable → WeightsShort
 weightsShort t =
@@ -50,9 +50,8 @@ whyWeights (WeightsStep.Refused r) = r
 
 -- ---- private contracts: a list
 
-unfoldable pub listLeft : Res WeightList → List ℤ
-listLeft (got l e) = weightWords l
-listLeft (no r) = replicate 256 (pos 0)
+abbrev pub listLeft : Res WeightList → List ℤ → List ℤ
+listLeft = leaves (replicate 256 (pos 0)) weightWords
 
 abbrev pub listStep : Res WeightList → ListStep
 listStep (got l e) = ListStep.Got (l .count) (record { at = e })

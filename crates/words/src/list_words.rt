@@ -1,4 +1,4 @@
-// A list read into words that the caller lends: 66 codes, then the first operands, then the second ones. No list is copied.
+// A list read into words that the caller lends: three words an entry, its code and its two operands. No list is copied, and words behind the last entry stay as they were.
 use bits::read::Cursor;
 use bits::read::Read;
 use bits::read::why;
@@ -47,11 +47,10 @@ pub fn clear_list(words: &mut [u32; 198])
     *words = [0; 198];
 }
 
-// The loop of `operations`, over words that are clear. After a refusal they hold what was read before it.
+// The loop of `operations`. After a refusal the words hold what was read before it.
 fn fill(s: &[u8], c: Cursor, kind: ListKind, words: &mut [u32; 198]) -> ListStep
-    requires { ⌜ now words ≡ replicate 198 0 ⌝ }
     ensures { λ r. ⌜ r ≡ listStep (operations (kindOf kind) .read (bitsOf (now (s .entry))) (c .at)) ⌝ }
-    ensures { λ r. ⌜ Filled (operations (kindOf kind) .read (bitsOf (now (s .entry))) (c .at)) (now (words .exit)) ⌝ }
+    ensures { λ r. ⌜ Filled (operations (kindOf kind) .read (bitsOf (now (s .entry))) (c .at)) (now (words .entry)) (now (words .exit)) ⌝ }
 {
     let mut count: u32 = 0;
     let mut at = c;
@@ -75,17 +74,17 @@ fn fill(s: &[u8], c: Cursor, kind: ListKind, words: &mut [u32; 198]) -> ListStep
         let Read::Got(y, c3) = d else {
             return ListStep::Refused(why(d));
         };
-        let i = count as usize;
-        words[i] = code;
-        words[66 + i] = x;
-        words[132 + i] = y;
+        let k = 3 * count as usize;
+        words[k] = code;
+        words[k + 1] = x;
+        words[k + 2] = y;
         count += 1;
         at = c3;
     }
     ListStep::Got(count, at)
 }
 
-// A list that is there only under a condition. The words are zeros where there is none, and beside a refusal.
+// A list that is there only under a condition. The words stay as they were where there is none, and are zeros beside a refusal.
 pub fn operations_into(
     s: &[u8],
     c: Cursor,
@@ -94,9 +93,8 @@ pub fn operations_into(
     words: &mut [u32; 198],
 ) -> ListStep
     ensures { λ r. ⌜ r ≡ listStep (operationsIf there (kindOf kind) .read (bitsOf (now (s .entry))) (c .at)) ⌝ }
-    ensures { λ r. ⌜ now (words .exit) ≡ listLeft (operationsIf there (kindOf kind) .read (bitsOf (now (s .entry))) (c .at)) ⌝ }
+    ensures { λ r. ⌜ now (words .exit) ≡ listLeft (operationsIf there (kindOf kind) .read (bitsOf (now (s .entry))) (c .at)) (now (words .entry)) ⌝ }
 {
-    clear_list(words);
     if !there {
         return ListStep::Got(0, c);
     }
@@ -132,10 +130,10 @@ fn base_marking_kind() -> ListKind
     }
 }
 
-// The body of a prefix unit, there only under a condition. The words are zeros where it has no list, and beside a refusal.
+// The body of a prefix unit, there only under a condition. The words stay as they were where it has no list, and are zeros beside a refusal.
 pub fn prefix_into(s: &[u8], c: Cursor, there: bool, words: &mut [u32; 198]) -> PrefixStep
     ensures { λ r. ⌜ r ≡ prefixStep (prefix there .read (bitsOf (now (s .entry))) (c .at)) ⌝ }
-    ensures { λ r. ⌜ now (words .exit) ≡ prefixLeft (prefix there .read (bitsOf (now (s .entry))) (c .at)) ⌝ }
+    ensures { λ r. ⌜ now (words .exit) ≡ prefixLeft (prefix there .read (bitsOf (now (s .entry))) (c .at)) (now (words .entry)) ⌝ }
 {
     let a1 = flag_if(s, c, there);
     let FlagStep::Got(store, c1) = a1 else {

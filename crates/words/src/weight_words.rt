@@ -111,11 +111,10 @@ fn store(words: &mut [i32; 256], i: usize, w: Weight)
     words[k + 7] = cr_offset;
 }
 
-// n entries, at most 32, into words that are zeros, and that are zeros again beside a refusal.
+// n entries, at most 32. The words are zeros beside a refusal.
 fn list_into(s: &[u8], c: Cursor, chroma: bool, n: u32, words: &mut [i32; 256]) -> ListStep
-    requires { ⌜ now words ≡ replicate 256 (pos 0) ⌝ }
     ensures { λ r. ⌜ r ≡ listStep (weightList chroma (atMost32 n) .read (bitsOf (now (s .entry))) (c .at)) ⌝ }
-    ensures { λ r. ⌜ now (words .exit) ≡ listLeft (weightList chroma (atMost32 n) .read (bitsOf (now (s .entry))) (c .at)) ⌝ }
+    ensures { λ r. ⌜ now (words .exit) ≡ listLeft (weightList chroma (atMost32 n) .read (bitsOf (now (s .entry))) (c .at)) (now (words .entry)) ⌝ }
 {
     let count = at_most_32(n);
     let mut i: u32 = 0;
@@ -134,7 +133,7 @@ fn list_into(s: &[u8], c: Cursor, chroma: bool, n: u32, words: &mut [i32; 256]) 
     ListStep::Got(count, at)
 }
 
-// The table for lists of n0 and n1 references, at most 32 each. Words that hold no entry are zeros, and all are beside a refusal.
+// The table for lists of n0 and n1 references, at most 32 each. Words that hold no entry stay as they were; all are zeros beside a refusal.
 pub fn weights_into(
     s: &[u8],
     c: Cursor,
@@ -146,11 +145,9 @@ pub fn weights_into(
     w1: &mut [i32; 256],
 ) -> WeightsStep
     ensures { λ r. ⌜ r ≡ weightsStep (predWeightTable x «slice_type» (atMost32 n0) (atMost32 n1) .read (bitsOf (now (s .entry))) (c .at)) ⌝ }
-    ensures { λ r. ⌜ now (w0 .exit) ≡ weightsLeft (λ t. t .l0) (predWeightTable x «slice_type» (atMost32 n0) (atMost32 n1) .read (bitsOf (now (s .entry))) (c .at)) ⌝ }
-    ensures { λ r. ⌜ now (w1 .exit) ≡ weightsLeft (λ t. t .l1) (predWeightTable x «slice_type» (atMost32 n0) (atMost32 n1) .read (bitsOf (now (s .entry))) (c .at)) ⌝ }
+    ensures { λ r. ⌜ now (w0 .exit) ≡ weightsLeft (λ t. t .l0) (predWeightTable x «slice_type» (atMost32 n0) (atMost32 n1) .read (bitsOf (now (s .entry))) (c .at)) (now (w0 .entry)) ⌝ }
+    ensures { λ r. ⌜ now (w1 .exit) ≡ weightsLeft (λ t. t .l1) (predWeightTable x «slice_type» (atMost32 n0) (atMost32 n1) .read (bitsOf (now (s .entry))) (c .at)) (now (w1 .entry)) ⌝ }
 {
-    clear_weights(w0);
-    clear_weights(w1);
     if !is_weighted(x, slice_type) {
         return WeightsStep::Got(
             WeightsShort {
@@ -169,14 +166,19 @@ pub fn weights_into(
     let chroma = has_chroma(x);
     let a1 = c.ue(s);
     let Read::Got(luma, c1) = a1 else {
+        clear_weights(w0);
+        clear_weights(w1);
         return WeightsStep::Refused(why(a1));
     };
     let a2 = number_if(s, c1, chroma);
     let NumberStep::Got(m, c2) = a2 else {
+        clear_weights(w0);
+        clear_weights(w1);
         return WeightsStep::Refused(why_number(a2));
     };
     let a3 = list_into(s, c2, chroma, n0, w0);
     let ListStep::Got(k0, c3) = a3 else {
+        clear_weights(w1);
         return WeightsStep::Refused(why_list(a3));
     };
     let a4 = list_into(s, c3, chroma, count_if(is_type(slice_type, B), n1), w1);
