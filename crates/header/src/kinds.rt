@@ -12,7 +12,7 @@ pub fn kind_of(h: NalHeader, e: NalHeaderExtension) -> UnitKind
     ensures { λ r. ⌜ r ≡ kindOf h e ⌝ }
 {
     let reference = h.nal_ref_idc() != 0;
-    let t = h.nal_unit_type().id();
+    let t = h.type_id();
     let extended = either(t == 20, t == 21);
     match e {
         NalHeaderExtension::Mvc(m) => UnitKind {

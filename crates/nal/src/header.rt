@@ -5,6 +5,7 @@ use bits::refusals::NO_BYTE;
 use bits::refusals::Refusal;
 use bits::refusals::refuse;
 ghost use mathlib.Core.Path.{_≡_};
+ghost use Rattle.nal.specs.UnitType.{idOf};
 ghost use Rattle.nal.specs.Header.{headerFrom, headerOf, nalRefIdc, nalUnitType};
 
 pub struct NalHeader(pub u8);
@@ -29,6 +30,13 @@ impl NalHeader {
         ensures { λ r. ⌜ r ≡ nalRefIdc self ⌝ }
     {
         self.0 / 32 % 4
+    }
+
+    // The id of `nal_unit_type`, without the table of types.
+    pub fn type_id(self) -> u8
+        ensures { λ r. ⌜ r ≡ idOf (nalUnitType self) ⌝ }
+    {
+        self.0 % 32
     }
 
     pub fn nal_unit_type(self) -> UnitType

@@ -60,7 +60,7 @@ fn has_extension(t: u8) -> bool
 fn extended(h: NalHeader, e: NalHeaderExtension) -> Begun
     ensures { λ r. ⌜ r ≡ extended h e ⌝ }
 {
-    if h.nal_unit_type().id() == 14 {
+    if h.type_id() == 14 {
         return Begun::Prefix(both(is_svc(e), h.nal_ref_idc() != 0));
     }
     Begun::Slice(kind_of(h, e), 4)
@@ -70,7 +70,7 @@ fn extended(h: NalHeader, e: NalHeaderExtension) -> Begun
 fn typed(unit: &[u8], h: NalHeader) -> Begun
     ensures { λ r. ⌜ r ≡ typed (now (unit .entry)) h ⌝ }
 {
-    let t = h.nal_unit_type().id();
+    let t = h.type_id();
     if either(t == 1, t == 5) {
         return Begun::Slice(kind_of(h, absent_extension()), 1);
     }

@@ -7,11 +7,8 @@ use Rattle.header.proofs.kinds.kind_of.Tie as tie
 nal-ref-idc-requires : tie.Need-nal-ref-idc-requires
 nal-ref-idc-requires c κs = search needs
 
-nal-unit-type-requires : tie.Need-nal-unit-type-requires
-nal-unit-type-requires c κs = search needs
-
-id-requires : tie.Need-id-requires
-id-requires c κs = search needs
+type-id-requires : tie.Need-type-id-requires
+type-id-requires c κs = search needs
 
 either-requires : tie.Need-either-requires
 either-requires c κs = search needs
@@ -33,19 +30,18 @@ enum-told c = search needs
 
 returns : tie.Need-returns
 unfolding kindOf
-returns c = rw (c .before .before .before .before .e .given .1, c .before .before .before .before .before .before .before .before .before .nal-ref-idc .ensures, c .either2 .ensures, c .before .both .ensures, c .before .before .non-idr-flag .ensures, c .before .before .before .before .before .before .either .ensures, c .before .before .before .before .before .before .before .id .ensures, c .before .before .before .before .before .before .before .before .nal-unit-type .ensures, and-true, and-false)
+returns c = rw (c .before .before .before .before .e .given .1, c .before .before .before .before .before .before .before .before .nal-ref-idc .ensures, c .either2 .ensures, c .before .both .ensures, c .before .before .non-idr-flag .ensures, c .before .before .before .before .before .before .either .ensures, c .before .before .before .before .before .before .before .type-id .ensures, and-true, and-false)
 
 returns-2 : tie.Need-returns-2
 unfolding kindOf
-returns-2 c = rw (c .enum-told .given .1, c .before .before .before .before .before .nal-ref-idc .ensures, c .before .before .either .ensures, c .before .before .before .id .ensures, c .before .before .before .before .nal-unit-type .ensures, and-false, and-true, or-false)
+returns-2 c = rw (c .enum-told .given .1, c .before .before .before .before .nal-ref-idc .ensures, c .before .before .either .ensures, c .before .before .before .type-id .ensures, and-false, and-true, or-false)
 
 pub kind-of-spec : {M : Type 1} → statement M
 kind-of-spec =
     tie.close
     (tie.spec
     nal-ref-idc-requires
-    nal-unit-type-requires
-    id-requires
+    type-id-requires
     either-requires
     enum-known-e
     non-idr-flag-requires

@@ -4,11 +4,8 @@ use borrow.Author.Needs.{needs}
 use Rattle.unit.proofs.begin.extended.Statement.{statement}
 use Rattle.unit.proofs.begin.extended.Tie as tie
 
-nal-unit-type-requires : tie.Need-nal-unit-type-requires
-nal-unit-type-requires c κs = search needs
-
-id-requires : tie.Need-id-requires
-id-requires c κs = search needs
+type-id-requires : tie.Need-type-id-requires
+type-id-requires c κs = search needs
 
 is-svc-requires : tie.Need-is-svc-requires
 is-svc-requires c κs = search needs
@@ -21,21 +18,20 @@ both-requires c κs = search needs
 
 returns : tie.Need-returns
 unfolding extended
-returns c = rw (c .both .ensures, c .before .before .is-svc .ensures, c .before .nal-ref-idc .ensures, ← c .before .before .before .before .before .nal-unit-type .ensures, ← c .before .before .before .before .id .ensures, eq-eqb _ _ (c .before .before .before .if1 .taken))
+returns c = rw (c .both .ensures, c .before .before .is-svc .ensures, c .before .nal-ref-idc .ensures, ← c .before .before .before .before .type-id .ensures, eq-eqb _ _ (c .before .before .before .if1 .taken))
 
 kind-of-requires : tie.Need-kind-of-requires
 kind-of-requires c κs = search needs
 
 returns-2 : tie.Need-returns-2
 unfolding extended
-returns-2 c = rw (c .kind-of .ensures, ← c .before .before .before .nal-unit-type .ensures, ← c .before .before .id .ensures, ne-eqb _ _ (c .before .if1 .left))
+returns-2 c = rw (c .kind-of .ensures, ← c .before .before .type-id .ensures, ne-eqb _ _ (c .before .if1 .left))
 
 pub extended-spec : {M : Type 1} → statement M
 extended-spec =
     tie.close
     (tie.spec
-    nal-unit-type-requires
-    id-requires
+    type-id-requires
     is-svc-requires
     nal-ref-idc-requires
     both-requires

@@ -4,11 +4,8 @@ use borrow.Author.Needs.{needs}
 use Rattle.unit.proofs.begin.typed.Statement.{statement}
 use Rattle.unit.proofs.begin.typed.Tie as tie
 
-nal-unit-type-requires : tie.Need-nal-unit-type-requires
-nal-unit-type-requires c κs = search needs
-
-id-requires : tie.Need-id-requires
-id-requires c κs = search needs
+type-id-requires : tie.Need-type-id-requires
+type-id-requires c κs = search needs
 
 either-requires : tie.Need-either-requires
 either-requires c κs = search needs
@@ -21,14 +18,14 @@ kind-of-requires c κs = search needs
 
 returns : tie.Need-returns
 unfolding typed
-returns c = rw (c .kind-of .ensures, c .before .absent-extension .ensures, ← c .before .before .before .before .before .nal-unit-type .ensures, ← c .before .before .before .before .id .ensures, ← c .before .before .before .either .ensures, c .before .before .if1 .taken)
+returns c = rw (c .kind-of .ensures, c .before .absent-extension .ensures, ← c .before .before .before .before .type-id .ensures, ← c .before .before .before .either .ensures, c .before .before .if1 .taken)
 
 has-extension-requires : tie.Need-has-extension-requires
 has-extension-requires c κs = search needs
 
 returns-2 : tie.Need-returns-2
 unfolding typed
-returns-2 c = rw (← c .before .before .before .before .before .nal-unit-type .ensures, ← c .before .before .before .before .id .ensures, ← c .before .before .before .either .ensures, c .before .before .if1 .left, ← c .before .has-extension .ensures, not-true (c .before .has-extension .result) (c .if2 .taken))
+returns-2 c = rw (← c .before .before .before .before .type-id .ensures, ← c .before .before .before .either .ensures, c .before .before .if1 .left, ← c .before .has-extension .ensures, not-true (c .before .has-extension .result) (c .if2 .taken))
 
 extension-of-requires : tie.Need-extension-of-requires
 extension-of-requires c κs = search needs
@@ -44,18 +41,17 @@ enum-known-r c = search needs
 
 returns-3 : tie.Need-returns-3
 unfolding typed
-returns-3 c = rw (c .extended .ensures, ← c .before .before .before .before .before .before .before .before .before .before .nal-unit-type .ensures, ← c .before .before .before .before .before .before .before .before .before .id .ensures, ← c .before .before .before .before .before .before .before .before .either .ensures, c .before .before .before .before .before .before .before .if1 .left, ← c .before .before .before .before .before .before .has-extension .ensures, not-false (c .before .before .before .before .before .before .has-extension .result) (c .before .before .before .before .before .if2 .left), ← c .before .before .before .before .extension-of .ensures, c .before .before .e .given .1)
+returns-3 c = rw (c .extended .ensures, ← c .before .before .before .before .before .before .before .before .before .type-id .ensures, ← c .before .before .before .before .before .before .before .before .either .ensures, c .before .before .before .before .before .before .before .if1 .left, ← c .before .before .before .before .before .before .has-extension .ensures, not-false (c .before .before .before .before .before .before .has-extension .result) (c .before .before .before .before .before .if2 .left), ← c .before .before .before .before .extension-of .ensures, c .before .before .e .given .1)
 
 returns-4 : tie.Need-returns-4
 unfolding typed
-returns-4 c = rw (← c .before .before .before .before .before .before .before .before .before .nal-unit-type .ensures, ← c .before .before .before .before .before .before .before .before .id .ensures, ← c .before .before .before .before .before .before .before .either .ensures, c .before .before .before .before .before .before .if1 .left, ← c .before .before .before .before .before .has-extension .ensures, not-false (c .before .before .before .before .before .has-extension .result) (c .before .before .before .before .if2 .left), ← c .before .before .before .extension-of .ensures, c .before .r .given .1)
+returns-4 c = rw (← c .before .before .before .before .before .before .before .before .type-id .ensures, ← c .before .before .before .before .before .before .before .either .ensures, c .before .before .before .before .before .before .if1 .left, ← c .before .before .before .before .before .has-extension .ensures, not-false (c .before .before .before .before .before .has-extension .result) (c .before .before .before .before .if2 .left), ← c .before .before .before .extension-of .ensures, c .before .r .given .1)
 
 pub typed-spec : {M : Type 1} → statement M
 typed-spec =
     tie.close
     (tie.spec
-    nal-unit-type-requires
-    id-requires
+    type-id-requires
     either-requires
     absent-extension-requires
     kind-of-requires
