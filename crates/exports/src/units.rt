@@ -2,24 +2,12 @@
 use bits::refusals::Refusal;
 use lent::whole::ShortAnswer;
 use lent::whole::read_unit_into;
-use short::slice::HeaderShort;
 use syntax::marks::MarkedFlag;
-use syntax::marks::MarkedNumber;
-use syntax::marks::MarkedSigned;
-use syntax::record::ActiveCounts;
-use syntax::record::Deltas;
-use syntax::record::Filter;
-use syntax::record::Frame;
-use syntax::record::OrderCount;
-use syntax::record::Quantiser;
 use words::list_words::PrefixShort;
-use words::weight_words::WeightsShort;
 ghost use mathlib.Core.Path.{_≡_};
 ghost use Rattle.lists.specs.Absent.{noPrefix};
 ghost use Rattle.header.specs.Lead.{tableOf};
-ghost use Rattle.reading.specs.Whole.{noHeader};
 ghost use Rattle.words.specs.ListsLent.{prefixShort};
-ghost use Rattle.short.specs.Short.{shortOf};
 ghost use Rattle.unit.specs.Unit.{unitRead};
 ghost use Rattle.lent.specs.Lent.{Words};
 ghost use Rattle.exports.specs.Units.{told, unitOut};
@@ -35,82 +23,8 @@ pub struct ReadOut {
     pub value: i64,
     // the slice header's length in bits
     pub bits: usize,
-    // the lists of both stand in the words that the caller lends
-    pub header: HeaderShort,
+    // its list stands in words that the caller lends, as a slice's header does
     pub prefix: PrefixShort,
-}
-
-fn no_header() -> HeaderShort
-    ensures { λ r. ⌜ r ≡ shortOf noHeader ⌝ }
-{
-    let number = MarkedNumber {
-        there: false,
-        value: 0,
-    };
-    let signed = MarkedSigned {
-        there: false,
-        value: 0,
-    };
-    let flag = MarkedFlag {
-        there: false,
-        value: false,
-    };
-    HeaderShort {
-        first_mb_in_slice: 0,
-        slice_type: 0,
-        pic_parameter_set_id: 0,
-        seq_parameter_set_id: 0,
-        frame: Frame {
-            colour_plane_id: number,
-            frame_num: 0,
-            field_pic_flag: flag,
-            bottom_field_flag: flag,
-            idr_pic_id: number,
-        },
-        order_count: OrderCount {
-            pic_order_cnt_lsb: number,
-            delta_pic_order_cnt_bottom: signed,
-            delta_pic_order_cnt: Deltas {
-                there: false,
-                first: 0,
-                second: 0,
-            },
-            redundant_pic_cnt: number,
-        },
-        active_counts: ActiveCounts {
-            direct_spatial_mv_pred_flag: flag,
-            num_ref_idx_active_override_flag: flag,
-            num_ref_idx_l0_active_minus1: number,
-            num_ref_idx_l1_active_minus1: number,
-        },
-        ref_pic_list_modification_flag_l0: flag,
-        modifications_l0: 0,
-        ref_pic_list_modification_flag_l1: flag,
-        modifications_l1: 0,
-        weights: WeightsShort {
-            there: false,
-            luma_log2_weight_denom: 0,
-            chroma_log2_weight_denom: number,
-            l0: 0,
-            l1: 0,
-        },
-        no_output_of_prior_pics_flag: flag,
-        long_term_reference_flag: flag,
-        adaptive_ref_pic_marking_mode_flag: flag,
-        markings: 0,
-        quantiser: Quantiser {
-            cabac_init_idc: number,
-            slice_qp_delta: 0,
-            sp_for_switch_flag: flag,
-            slice_qs_delta: signed,
-        },
-        filter: Filter {
-            disable_deblocking_filter_idc: number,
-            slice_alpha_c0_offset_div2: signed,
-            slice_beta_offset_div2: signed,
-            slice_group_change_cycle: number,
-        },
-    }
 }
 
 fn no_prefix() -> PrefixShort
@@ -131,12 +45,11 @@ pub(crate) fn tell(a: ShortAnswer) -> ReadOut
     ensures { λ r. ⌜ r ≡ told a ⌝ }
 {
     match a {
-        ShortAnswer::Slice(header, bits) => ReadOut {
+        ShortAnswer::Slice(bits) => ReadOut {
             answer: 1,
             number: 0,
             value: 0,
             bits,
-            header,
             prefix: no_prefix(),
         },
         ShortAnswer::Prefix(prefix) => ReadOut {
@@ -144,7 +57,6 @@ pub(crate) fn tell(a: ShortAnswer) -> ReadOut
             number: 0,
             value: 0,
             bits: 0,
-            header: no_header(),
             prefix,
         },
         ShortAnswer::Other(id) => ReadOut {
@@ -152,7 +64,6 @@ pub(crate) fn tell(a: ShortAnswer) -> ReadOut
             number: id as u32,
             value: 0,
             bits: 0,
-            header: no_header(),
             prefix: no_prefix(),
         },
         ShortAnswer::Refused(why) => ReadOut {
@@ -160,19 +71,21 @@ pub(crate) fn tell(a: ShortAnswer) -> ReadOut
             number: why.number as u32,
             value: why.value,
             bits: 0,
-            header: no_header(),
             prefix: no_prefix(),
         },
     }
 }
 
-// A unit read by the sets in a table's two arrays. Scratch needs as many bytes as the unit has. The lists go to six arrays of words, whatever these held before.
+// A unit read by the sets in a table's two arrays. Scratch needs as many bytes as the unit has. A slice's header goes to `numbers` and `signed` (fields) and to l0,
+// l1, marking, w0 and w1 (lists), a prefix unit's list to `base`; all other words stay as they were. Beside a refusal all words are zeros.
 #[no_mangle]
 pub extern "C" fn tuz_read_unit<'a>(
     sequences: &'a [u32; 224],
     pictures: &'a [u32; 2048],
     unit: &[u8],
     scratch: &mut [u8],
+    numbers: &mut [u32; 57],
+    signed: &mut [i32; 7],
     l0: &mut [u32; 198],
     l1: &mut [u32; 198],
     marking: &mut [u32; 198],
@@ -188,6 +101,8 @@ pub extern "C" fn tuz_read_unit<'a>(
         pictures,
         unit,
         scratch,
+        numbers,
+        signed,
         l0,
         l1,
         marking,

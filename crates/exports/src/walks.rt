@@ -6,8 +6,6 @@ use lent::whole::ShortAnswer;
 use lent::whole::read_unit_into;
 use walk::walk::Step;
 use walk::walk::next_step;
-use words::list_words::clear_list;
-use words::weight_words::clear_weights;
 ghost use mathlib.Core.Path.{_≡_};
 ghost use Rattle.header.specs.Lead.{tableOf};
 ghost use Rattle.unit.specs.declared.answer.UnitAnswer.{UnitAnswer};
@@ -90,26 +88,7 @@ fn no_unit(s: Step) -> WalkOut
     }
 }
 
-// The words where nothing is read.
-fn no_words(
-    l0: &mut [u32; 198],
-    l1: &mut [u32; 198],
-    marking: &mut [u32; 198],
-    w0: &mut [i32; 256],
-    w1: &mut [i32; 256],
-    base: &mut [u32; 198],
-)
-    ensures { λ _. ⌜ Words (only (UnitAnswer.Other 0)) (now (l0 .exit)) (now (l1 .exit)) (now (marking .exit)) (now (w0 .exit)) (now (w1 .exit)) (now (base .exit)) ⌝ }
-{
-    clear_list(l0);
-    clear_list(l1);
-    clear_list(marking);
-    clear_weights(w0);
-    clear_weights(w1);
-    clear_list(base);
-}
-
-// One step of the walk from a place on, by the sets in a table's two arrays. Scratch needs as many bytes as the longest unit has. The lists go to six arrays of words, as in `tuz_read_unit`.
+// One step of the walk from a place on, by the sets in a table's two arrays. Scratch needs as many bytes as the longest unit has. Words are written as by `tuz_read_unit`; where there is no unit, none is.
 #[no_mangle]
 pub extern "C" fn tuz_walk<'a>(
     sequences: &'a [u32; 224],
@@ -117,6 +96,8 @@ pub extern "C" fn tuz_walk<'a>(
     recording: &[u8],
     from: usize,
     scratch: &mut [u8],
+    numbers: &mut [u32; 57],
+    signed: &mut [i32; 7],
     l0: &mut [u32; 198],
     l1: &mut [u32; 198],
     marking: &mut [u32; 198],
@@ -129,7 +110,6 @@ pub extern "C" fn tuz_walk<'a>(
 {
     let step = next_step(recording, from);
     let Step::Unit(place, length, next) = step else {
-        no_words(l0, l1, marking, w0, w1, base);
         return no_unit(step);
     };
     let end = place + length;
@@ -138,6 +118,8 @@ pub extern "C" fn tuz_walk<'a>(
         pictures,
         &recording[place..end],
         scratch,
+        numbers,
+        signed,
         l0,
         l1,
         marking,

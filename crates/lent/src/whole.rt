@@ -1,10 +1,10 @@
-// A whole unit read into words that the caller lends: the answer has no lists, so none is copied. Words of a list that is not there are zeros.
+// A whole unit read into words that the caller lends: the answer holds neither fields nor lists of a header, so no record is copied on its way to the caller.
 use bits::read::Cursor;
 use bits::refusals::Refusal;
+use codes::step::End;
 use escape::escape::Body;
 use escape::escape::unescape;
-use short::slice::HeaderShort;
-use short::slice::HeaderStep;
+use short::slice::clear_header;
 use short::slice::read_header_into;
 use syntax::context::UnitKind;
 use unit::begin::Begun;
@@ -13,30 +13,29 @@ use words::list_words::PrefixShort;
 use words::list_words::PrefixStep;
 use words::list_words::clear_list;
 use words::list_words::prefix_into;
-use words::weight_words::clear_weights;
 ghost use mathlib.Core.Path.{_≡_};
 ghost use Prim.Native.Nat.{_≤_};
 ghost use lib.ListN.{length};
 ghost use Rattle.bits.specs.Refusals.{limit};
 ghost use Rattle.header.specs.Lead.{tableOf};
 ghost use Rattle.unit.specs.Unit.{inBody, sliceBits, prefixBits, unitRead};
-ghost use Rattle.lent.specs.Lent.{sliceShort, bodyShort, Cleared, ReadInto};
+ghost use Rattle.lent.specs.Lent.{sliceShort, bodyShort, lentIs, Taken, ReadInto};
 
 pub enum ShortAnswer {
-    // a slice header, of so many bits
-    Slice(HeaderShort, usize),
+    // a slice header, of so many bits, which stands in the words
+    Slice(usize),
     Prefix(PrefixShort),
     // a unit of another type
     Other(u8),
     Refused(Refusal),
 }
 
-fn slice_short(a: HeaderStep) -> ShortAnswer
+fn slice_short(a: End) -> ShortAnswer
     ensures { λ r. ⌜ r ≡ sliceShort a ⌝ }
 {
     match a {
-        HeaderStep::Got(h, c) => ShortAnswer::Slice(h, c.at),
-        HeaderStep::Refused(r) => ShortAnswer::Refused(r),
+        End::At(c) => ShortAnswer::Slice(c.at),
+        End::Refused(r) => ShortAnswer::Refused(r),
     }
 }
 
@@ -49,23 +48,6 @@ fn body_short(a: PrefixStep) -> ShortAnswer
     }
 }
 
-// The words of a header's lists.
-fn clear_header(
-    l0: &mut [u32; 198],
-    l1: &mut [u32; 198],
-    marking: &mut [u32; 198],
-    w0: &mut [i32; 256],
-    w1: &mut [i32; 256],
-)
-    ensures { λ _. ⌜ Cleared (now (l0 .exit)) (now (l1 .exit)) (now (marking .exit)) (now (w0 .exit)) (now (w1 .exit)) ⌝ }
-{
-    clear_list(l0);
-    clear_list(l1);
-    clear_list(marking);
-    clear_weights(w0);
-    clear_weights(w1);
-}
-
 // The body of a slice, which goes to scratch.
 fn slice_into<'a>(
     sequences: &'a [u32; 224],
@@ -74,67 +56,54 @@ fn slice_into<'a>(
     scratch: &mut [u8],
     kind: UnitKind,
     from: usize,
+    numbers: &mut [u32; 57],
+    signed: &mut [i32; 7],
     l0: &mut [u32; 198],
     l1: &mut [u32; 198],
     marking: &mut [u32; 198],
     w0: &mut [i32; 256],
     w1: &mut [i32; 256],
-    base: &mut [u32; 198],
 ) -> ShortAnswer
     requires { ⌜ length (now unit) ≤ limit ⌝ }
-    ensures { λ r. ⌜ ReadInto (inBody (sliceBits (tableOf (now (sequences .entry)) (now (pictures .entry))) kind) (now (unit .entry)) from (now (scratch .entry))) r (now (scratch .exit)) (now (l0 .exit)) (now (l1 .exit)) (now (marking .exit)) (now (w0 .exit)) (now (w1 .exit)) (now (base .exit)) ⌝ }
+    ensures { λ r. ⌜ SLICE ⌝ }
 {
-    clear_list(base);
     match unescape(unit, from, scratch) {
         Body::Of(n) => slice_short(read_header_into(
             &scratch[..n],
             kind,
             sequences,
             pictures,
+            numbers,
+            signed,
             l0,
             l1,
             marking,
             w0,
             w1,
         )),
-        Body::Refused(r) => {
-            clear_header(l0, l1, marking, w0, w1);
-            ShortAnswer::Refused(r)
-        }
+        Body::Refused(r) => ShortAnswer::Refused(r),
     }
 }
 
 // The body of a prefix unit, which goes to scratch.
-fn body_into(
-    unit: &[u8],
-    scratch: &mut [u8],
-    there: bool,
-    l0: &mut [u32; 198],
-    l1: &mut [u32; 198],
-    marking: &mut [u32; 198],
-    w0: &mut [i32; 256],
-    w1: &mut [i32; 256],
-    base: &mut [u32; 198],
-) -> ShortAnswer
+fn body_into(unit: &[u8], scratch: &mut [u8], there: bool, base: &mut [u32; 198]) -> ShortAnswer
     requires { ⌜ length (now unit) ≤ limit ⌝ }
-    ensures { λ r. ⌜ ReadInto (inBody (prefixBits there) (now (unit .entry)) 4 (now (scratch .entry))) r (now (scratch .exit)) (now (l0 .exit)) (now (l1 .exit)) (now (marking .exit)) (now (w0 .exit)) (now (w1 .exit)) (now (base .exit)) ⌝ }
+    ensures { λ r. ⌜ BODY ⌝ }
 {
-    clear_header(l0, l1, marking, w0, w1);
     match unescape(unit, 4, scratch) {
         Body::Of(n) => body_short(prefix_into(&scratch[..n], Cursor { at: 0 }, there, base)),
-        Body::Refused(r) => {
-            clear_list(base);
-            ShortAnswer::Refused(r)
-        }
+        Body::Refused(r) => ShortAnswer::Refused(r),
     }
 }
 
-// A unit read by the sets in a table's two arrays. Scratch is left as `read_unit_in` leaves it.
-pub fn read_unit_into<'a>(
+// A unit; of the words beside a refusal nothing is said.
+fn take<'a>(
     sequences: &'a [u32; 224],
     pictures: &'a [u32; 2048],
     unit: &[u8],
     scratch: &mut [u8],
+    numbers: &mut [u32; 57],
+    signed: &mut [i32; 7],
     l0: &mut [u32; 198],
     l1: &mut [u32; 198],
     marking: &mut [u32; 198],
@@ -142,7 +111,7 @@ pub fn read_unit_into<'a>(
     w1: &mut [i32; 256],
     base: &mut [u32; 198],
 ) -> ShortAnswer
-    ensures { λ r. ⌜ ReadInto (unitRead (tableOf (now (sequences .entry)) (now (pictures .entry))) (now (unit .entry)) (now (scratch .entry))) r (now (scratch .exit)) (now (l0 .exit)) (now (l1 .exit)) (now (marking .exit)) (now (w0 .exit)) (now (w1 .exit)) (now (base .exit)) ⌝ }
+    ensures { λ r. ⌜ TAKE ⌝ }
 {
     match begin(unit) {
         Begun::Slice(kind, from) => slice_into(
@@ -152,21 +121,57 @@ pub fn read_unit_into<'a>(
             scratch,
             kind,
             from,
+            numbers,
+            signed,
             l0,
             l1,
             marking,
             w0,
             w1,
-            base,
         ),
-        Begun::Prefix(there) => { body_into(unit, scratch, there, l0, l1, marking, w0, w1, base) }
-        Begun::Other(id) => {
-            clear_header(l0, l1, marking, w0, w1);
-            clear_list(base);
-            ShortAnswer::Other(id)
-        }
-        Begun::Refused(r) => {
-            clear_header(l0, l1, marking, w0, w1);
+        Begun::Prefix(there) => body_into(unit, scratch, there, base),
+        Begun::Other(id) => ShortAnswer::Other(id),
+        Begun::Refused(r) => ShortAnswer::Refused(r),
+    }
+}
+
+// A unit read by the sets in a table's two arrays. Scratch is left as `read_unit_in` leaves it. A slice's header goes to the words of its fields and lists, a prefix
+// unit's list to `base`; all other words stay as they were. Beside a refusal all words are zeros.
+pub fn read_unit_into<'a>(
+    sequences: &'a [u32; 224],
+    pictures: &'a [u32; 2048],
+    unit: &[u8],
+    scratch: &mut [u8],
+    numbers: &mut [u32; 57],
+    signed: &mut [i32; 7],
+    l0: &mut [u32; 198],
+    l1: &mut [u32; 198],
+    marking: &mut [u32; 198],
+    w0: &mut [i32; 256],
+    w1: &mut [i32; 256],
+    base: &mut [u32; 198],
+) -> ShortAnswer
+    ensures { λ r. ⌜ PUB ⌝ }
+{
+    match take(
+        sequences,
+        pictures,
+        unit,
+        scratch,
+        numbers,
+        signed,
+        l0,
+        l1,
+        marking,
+        w0,
+        w1,
+        base,
+    ) {
+        ShortAnswer::Slice(n) => ShortAnswer::Slice(n),
+        ShortAnswer::Prefix(p) => ShortAnswer::Prefix(p),
+        ShortAnswer::Other(id) => ShortAnswer::Other(id),
+        ShortAnswer::Refused(r) => {
+            clear_header(numbers, signed, l0, l1, marking, w0, w1);
             clear_list(base);
             ShortAnswer::Refused(r)
         }

@@ -1,16 +1,18 @@
--- The answer of reading a header into lent words: its record without the lists, and the words that they leave.
+-- Reading a header into lent words: where it ends, and what is left in the words of its fields and of its lists.
 use Prim.Native.Nat.{ℕ}
-use mathlib.Core.List.{List}
+use mathlib.Core.Bool.{Bool, true, false}
+use mathlib.Core.List.{List, [], _∷_, _++_}
 use lib.IntN.{ℤ, pos}
 use lib.ListN.{replicate}
+use lib.Seq.{sets}
 use Rattle.bits.specs.Refusals.{Res, got, no}
-use Rattle.syntax.specs.declared.record.Operations.{Operations}
-use Rattle.syntax.specs.declared.record.WeightList.{WeightList}
+use Rattle.syntax.specs.declared.marks.MarkedFlag.{MarkedFlag}
+use Rattle.syntax.specs.declared.marks.MarkedNumber.{MarkedNumber}
 use Rattle.syntax.specs.declared.record.SliceHeader.{SliceHeader}
+use Rattle.codes.specs.declared.step.End.{End}
 use Rattle.words.specs.ListsLent.{listWords}
 use Rattle.words.specs.WeightsLent.{weightWords, weightsShort}
 use Rattle.short.specs.declared.slice.HeaderShort.{HeaderShort}
-use Rattle.short.specs.declared.slice.HeaderStep.{HeaderStep}
 
 -- the record without its lists; of each it has the count
 abbrev pub shortOf : SliceHeader → HeaderShort
@@ -36,15 +38,103 @@ shortOf h =
       filter = h .filter;
     }
 
-unfoldable pub headerStep : Res SliceHeader → HeaderStep
-headerStep (got h e) = HeaderStep.Got (shortOf h) (record { at = e })
-headerStep (no r) = HeaderStep.Refused r
+-- ---- its fields as words, in order: a mark and a value for what may be absent; marks and flags are 0 and 1
 
--- a list of the header in its words; zeros beside a refusal
-unfoldable pub wordsLeft : (SliceHeader → Operations) → Res SliceHeader → List ℕ
-wordsLeft f (got h e) = listWords (f h)
-wordsLeft f (no r) = replicate 198 0
+abbrev pub bit : Bool → ℕ
+bit true = 1
+bit false = 0
 
-unfoldable pub weightsOf : (SliceHeader → WeightList) → Res SliceHeader → List ℤ
-weightsOf f (got h e) = weightWords (f h)
-weightsOf f (no r) = replicate 256 (pos 0)
+abbrev pub numberWords : MarkedNumber → List ℕ
+numberWords m = bit (m .there) ∷ m .value ∷ []
+
+abbrev pub flagWords : MarkedFlag → List ℕ
+flagWords m = bit (m .there) ∷ bit (m .value) ∷ []
+
+-- numbers, flags, and the marks of signed numbers
+unfoldable pub numbersOf : HeaderShort → List ℕ
+numbersOf h =
+    (h .«first_mb_in_slice» ∷ h .«slice_type» ∷ h .«pic_parameter_set_id» ∷ h .«seq_parameter_set_id» ∷ [])
+    ++ (numberWords (h .frame .«colour_plane_id»)
+    ++ ((h .frame .«frame_num» ∷ [])
+    ++ (flagWords (h .frame .«field_pic_flag»)
+    ++ (flagWords (h .frame .«bottom_field_flag»)
+    ++ (numberWords (h .frame .«idr_pic_id»)
+    ++ (numberWords (h .«order_count» .«pic_order_cnt_lsb»)
+    ++ ((bit (h .«order_count» .«delta_pic_order_cnt_bottom» .there) ∷ bit (h .«order_count» .«delta_pic_order_cnt» .there) ∷ [])
+    ++ (numberWords (h .«order_count» .«redundant_pic_cnt»)
+    ++ (flagWords (h .«active_counts» .«direct_spatial_mv_pred_flag»)
+    ++ (flagWords (h .«active_counts» .«num_ref_idx_active_override_flag»)
+    ++ (numberWords (h .«active_counts» .«num_ref_idx_l0_active_minus1»)
+    ++ (numberWords (h .«active_counts» .«num_ref_idx_l1_active_minus1»)
+    ++ (flagWords (h .«ref_pic_list_modification_flag_l0»)
+    ++ ((h .«modifications_l0» ∷ [])
+    ++ (flagWords (h .«ref_pic_list_modification_flag_l1»)
+    ++ ((h .«modifications_l1» ∷ bit (h .weights .there) ∷ h .weights .«luma_log2_weight_denom» ∷ [])
+    ++ (numberWords (h .weights .«chroma_log2_weight_denom»)
+    ++ ((h .weights .l0 ∷ h .weights .l1 ∷ [])
+    ++ (flagWords (h .«no_output_of_prior_pics_flag»)
+    ++ (flagWords (h .«long_term_reference_flag»)
+    ++ (flagWords (h .«adaptive_ref_pic_marking_mode_flag»)
+    ++ ((h .markings ∷ [])
+    ++ (numberWords (h .quantiser .«cabac_init_idc»)
+    ++ (flagWords (h .quantiser .«sp_for_switch_flag»)
+    ++ ((bit (h .quantiser .«slice_qs_delta» .there) ∷ [])
+    ++ (numberWords (h .filter .«disable_deblocking_filter_idc»)
+    ++ ((bit (h .filter .«slice_alpha_c0_offset_div2» .there) ∷ bit (h .filter .«slice_beta_offset_div2» .there) ∷ [])
+    ++ numberWords (h .filter .«slice_group_change_cycle»))))))))))))))))))))))))))))
+
+unfoldable pub signedOf : HeaderShort → List ℤ
+signedOf h =
+    h .«order_count» .«delta_pic_order_cnt_bottom» .value
+    ∷ h .«order_count» .«delta_pic_order_cnt» .first
+    ∷ h .«order_count» .«delta_pic_order_cnt» .second
+    ∷ h .quantiser .«slice_qp_delta»
+    ∷ h .quantiser .«slice_qs_delta» .value
+    ∷ h .filter .«slice_alpha_c0_offset_div2» .value
+    ∷ h .filter .«slice_beta_offset_div2» .value
+    ∷ []
+
+-- ---- what reading says, and what it leaves in the words
+
+unfoldable pub headerEnd : Res SliceHeader → End
+headerEnd (got h e) = End.At (record { at = e })
+headerEnd (no r) = End.Refused r
+
+pub record HeaderWords : Type 0 where
+  pub numbers : List ℕ
+  pub signed : List ℤ
+  pub l0 : List ℕ
+  pub l1 : List ℕ
+  pub marking : List ℕ
+  pub w0 : List ℤ
+  pub w1 : List ℤ
+
+-- a header in words that were `b` before: a list's entries stand at their front, and what follows them is as before
+abbrev pub headerIn : SliceHeader → HeaderWords → HeaderWords
+headerIn h b =
+    record {
+      numbers = numbersOf (shortOf h);
+      signed = signedOf (shortOf h);
+      l0 = sets (b .l0) 0 (listWords (h .modifications .l0 .operations));
+      l1 = sets (b .l1) 0 (listWords (h .modifications .l1 .operations));
+      marking = sets (b .marking) 0 (listWords (h .«dec_ref_pic_marking» .operations));
+      w0 = sets (b .w0) 0 (weightWords (h .«pred_weight_table» .l0));
+      w1 = sets (b .w1) 0 (weightWords (h .«pred_weight_table» .l1));
+    }
+
+abbrev pub zeros : HeaderWords
+zeros =
+    record {
+      numbers = replicate 57 0;
+      signed = replicate 7 (pos 0);
+      l0 = replicate 198 0;
+      l1 = replicate 198 0;
+      marking = replicate 198 0;
+      w0 = replicate 256 (pos 0);
+      w1 = replicate 256 (pos 0);
+    }
+
+-- zeros beside a refusal
+unfoldable pub headerLeft : Res SliceHeader → HeaderWords → HeaderWords
+headerLeft (got h e) b = headerIn h b
+headerLeft (no r) b = zeros

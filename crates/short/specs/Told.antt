@@ -2,7 +2,7 @@
 use Prim.Native.Nat.{ℕ}
 use mathlib.Core.Path.{_≡_}
 use mathlib.Core.List.{List}
-use lib.IntN.{ℤ}
+use lib.Seq.{sets}
 use Rattle.bits.specs.declared.refusals.Refusal.{Refusal}
 use Rattle.bits.specs.Refusals.{Res, got, no}
 use Rattle.bits.specs.Answers.{none}
@@ -10,10 +10,9 @@ use Rattle.syntax.specs.declared.record.Modifications.{Modifications}
 use Rattle.syntax.specs.declared.record.DecRefPicMarking.{DecRefPicMarking}
 use Rattle.syntax.specs.declared.record.SliceHeader.{SliceHeader}
 use Rattle.header.specs.declared.stages.MarkingFlags.{MarkingFlags}
+use Rattle.codes.specs.declared.step.End.{End}
 use Rattle.words.specs.ListsLent.{listWords}
-use Rattle.words.specs.WeightsLent.{weightWords}
-use Rattle.short.specs.Short.{shortOf}
-use Rattle.short.specs.declared.slice.HeaderStep.{HeaderStep}
+use Rattle.short.specs.Short.{HeaderWords, headerIn}
 use Rattle.short.specs.declared.slice.Lists.{Lists}
 use Rattle.short.specs.declared.slice.ListsStep.{ListsStep}
 use Rattle.short.specs.declared.slice.Marks.{Marks}
@@ -41,18 +40,15 @@ flagsOf d =
 abbrev pub marksOf : DecRefPicMarking → Marks
 marksOf d = record { flags = flagsOf d; count = d .operations .count }
 
-unfoldable pub ListsTold : Res Modifications → ListsStep → List ℕ → List ℕ → Type 0
-ListsTold (got m e) a l0 l1 = (a ≡ ListsStep.Got (listsOf m) (record { at = e })) × ((l0 ≡ listWords (m .l0 .operations)) × (l1 ≡ listWords (m .l1 .operations)))
-ListsTold (no r) a l0 l1 = a ≡ ListsStep.Refused r
+unfoldable pub ListsTold : Res Modifications → ListsStep → (before0 before1 l0 l1 : List ℕ) → Type 0
+ListsTold (got m e) a b0 b1 l0 l1 =
+    (a ≡ ListsStep.Got (listsOf m) (record { at = e })) × ((l0 ≡ sets b0 0 (listWords (m .l0 .operations))) × (l1 ≡ sets b1 0 (listWords (m .l1 .operations))))
+ListsTold (no r) a b0 b1 l0 l1 = a ≡ ListsStep.Refused r
 
-unfoldable pub MarksTold : Res DecRefPicMarking → MarksStep → List ℕ → Type 0
-MarksTold (got d e) a words = (a ≡ MarksStep.Got (marksOf d) (record { at = e })) × (words ≡ listWords (d .operations))
-MarksTold (no r) a words = a ≡ MarksStep.Refused r
+unfoldable pub MarksTold : Res DecRefPicMarking → MarksStep → (before words : List ℕ) → Type 0
+MarksTold (got d e) a before words = (a ≡ MarksStep.Got (marksOf d) (record { at = e })) × (words ≡ sets before 0 (listWords (d .operations)))
+MarksTold (no r) a before words = a ≡ MarksStep.Refused r
 
-unfoldable pub Filled : Res SliceHeader → HeaderStep → List ℕ → List ℕ → List ℕ → List ℤ → List ℤ → Type 0
-Filled (got h e) a l0 l1 m w0 w1 =
-    (a ≡ HeaderStep.Got (shortOf h) (record { at = e }))
-    × ((l0 ≡ listWords (h .modifications .l0 .operations))
-    × ((l1 ≡ listWords (h .modifications .l1 .operations))
-    × ((m ≡ listWords (h .«dec_ref_pic_marking» .operations)) × ((w0 ≡ weightWords (h .«pred_weight_table» .l0)) × (w1 ≡ weightWords (h .«pred_weight_table» .l1))))))
-Filled (no r) a l0 l1 m w0 w1 = a ≡ HeaderStep.Refused r
+unfoldable pub Filled : Res SliceHeader → End → (before words : HeaderWords) → Type 0
+Filled (got h e) a before words = (a ≡ End.At (record { at = e })) × (words ≡ headerIn h before)
+Filled (no r) a before words = a ≡ End.Refused r

@@ -1,4 +1,5 @@
-// The header read into lent words: its record without the lists, which stand in words that the caller lends.
+// The header read into lent words: its fields in two arrays, one of numbers and flags and one of signed numbers, and each list in an array of its own. A record
+// handed back by value would be copied by every function on its way.
 use bits::read::Cursor;
 use bits::refusals::NOTHING_FOLLOWS;
 use bits::refusals::Refusal;
@@ -6,6 +7,7 @@ use bits::refusals::refuse;
 use codes::conditions::B;
 use codes::conditions::is_type;
 use codes::fields::flag_if;
+use codes::step::End;
 use codes::step::FlagStep;
 use codes::step::why_flag;
 use header::follows::any_set_after;
@@ -49,7 +51,7 @@ ghost use Rattle.syntax.specs.SliceHeader.{readHeader, modifications, predWeigh
 ghost use Rattle.weights.specs.Counts.{atMost32};
 ghost use Rattle.header.specs.Lead.{tableOf};
 ghost use Rattle.words.specs.WeightsLent.{weightsStep, weightsLeft};
-ghost use Rattle.short.specs.Short.{headerStep, wordsLeft, weightsOf};
+ghost use Rattle.short.specs.Short.{numbersOf, signedOf, HeaderWords, zeros, headerEnd, headerLeft};
 ghost use Rattle.short.specs.Told.{ListsTold, MarksTold, Filled, whyLists, whyMarks};
 
 // The header's record without its lists. Of each list it has the count: how many entries of the lent words are used.
@@ -73,11 +75,6 @@ pub struct HeaderShort {
     pub markings: u32,
     pub quantiser: Quantiser,
     pub filter: Filter,
-}
-
-pub enum HeaderStep {
-    Got(HeaderShort, Cursor),
-    Refused(Refusal),
 }
 
 // ref_pic_list_modification( ) without its lists
@@ -137,7 +134,7 @@ fn lists_into(
     l0: &mut [u32; 198],
     l1: &mut [u32; 198],
 ) -> ListsStep
-    ensures { λ r. ⌜ ListsTold (modifications x «slice_type» .read (bitsOf (now (s .entry))) (c .at)) r (now (l0 .exit)) (now (l1 .exit)) ⌝ }
+    ensures { λ r. ⌜ ListsTold (modifications x «slice_type» .read (bitsOf (now (s .entry))) (c .at)) r (now (l0 .entry)) (now (l1 .entry)) (now (l0 .exit)) (now (l1 .exit)) ⌝ }
 {
     let a1 = first_flag(s, c, x, slice_type);
     let FlagStep::Got(flag0, c1) = a1 else {
@@ -168,7 +165,7 @@ fn lists_into(
 }
 
 fn marks_into(s: &[u8], c: Cursor, x: Context, words: &mut [u32; 198]) -> MarksStep
-    ensures { λ r. ⌜ MarksTold (decRefPicMarking x .read (bitsOf (now (s .entry))) (c .at)) r (now (words .exit)) ⌝ }
+    ensures { λ r. ⌜ MarksTold (decRefPicMarking x .read (bitsOf (now (s .entry))) (c .at)) r (now (words .entry)) (now (words .exit)) ⌝ }
 {
     let a1 = marking_flags(s, c, x);
     let MarkingStep::Got(flags, c1) = a1 else {
@@ -192,8 +189,8 @@ fn weights_for_into(
     w1: &mut [i32; 256],
 ) -> WeightsStep
     ensures { λ r. ⌜ r ≡ weightsStep (predWeightTable x «slice_type» (atMost32 (activeL0 x a)) (atMost32 (activeL1 x a)) .read (bitsOf (now (s .entry))) (c .at)) ⌝ }
-    ensures { λ r. ⌜ now (w0 .exit) ≡ weightsLeft (λ t. t .l0) (predWeightTable x «slice_type» (atMost32 (activeL0 x a)) (atMost32 (activeL1 x a)) .read (bitsOf (now (s .entry))) (c .at)) ⌝ }
-    ensures { λ r. ⌜ now (w1 .exit) ≡ weightsLeft (λ t. t .l1) (predWeightTable x «slice_type» (atMost32 (activeL0 x a)) (atMost32 (activeL1 x a)) .read (bitsOf (now (s .entry))) (c .at)) ⌝ }
+    ensures { λ r. ⌜ now (w0 .exit) ≡ weightsLeft (λ t. t .l0) (predWeightTable x «slice_type» (atMost32 (activeL0 x a)) (atMost32 (activeL1 x a)) .read (bitsOf (now (s .entry))) (c .at)) (now (w0 .entry)) ⌝ }
+    ensures { λ r. ⌜ now (w1 .exit) ≡ weightsLeft (λ t. t .l1) (predWeightTable x «slice_type» (atMost32 (activeL0 x a)) (atMost32 (activeL1 x a)) .read (bitsOf (now (s .entry))) (c .at)) (now (w1 .entry)) ⌝ }
 {
     let n0 = active(
         a.num_ref_idx_l0_active_minus1,
@@ -211,17 +208,19 @@ fn fill<'a>(
     kind: UnitKind,
     sequences: &'a [u32; 224],
     pictures: &'a [u32; 2048],
+    numbers: &mut [u32; 57],
+    signed: &mut [i32; 7],
     l0: &mut [u32; 198],
     l1: &mut [u32; 198],
     marking: &mut [u32; 198],
     w0: &mut [i32; 256],
     w1: &mut [i32; 256],
-) -> HeaderStep
-    ensures { λ r. ⌜ Filled (readHeader (tableOf (now (sequences .entry)) (now (pictures .entry))) kind (bitsOf (now (s .entry)))) r (now (l0 .exit)) (now (l1 .exit)) (now (marking .exit)) (now (w0 .exit)) (now (w1 .exit)) ⌝ }
+) -> End
+    ensures { λ r. ⌜ Filled (readHeader (tableOf (now (sequences .entry)) (now (pictures .entry))) kind (bitsOf (now (s .entry)))) r (record { numbers = now (numbers .entry); signed = now (signed .entry); l0 = now (l0 .entry); l1 = now (l1 .entry); marking = now (marking .entry); w0 = now (w0 .entry); w1 = now (w1 .entry) }) (record { numbers = now (numbers .exit); signed = now (signed .exit); l0 = now (l0 .exit); l1 = now (l1 .exit); marking = now (marking .exit); w0 = now (w0 .exit); w1 = now (w1 .exit) }) ⌝ }
 {
     let a1 = lead(s, Cursor { at: 0 }, sequences, pictures);
     let LeadStep::Got(l, c1) = a1 else {
-        return HeaderStep::Refused(why_lead(a1));
+        return End::Refused(why_lead(a1));
     };
     let picture = l.picture;
     let sequence = l.sequence;
@@ -232,27 +231,27 @@ fn fill<'a>(
     };
     let a2 = front(s, c1, x, l.slice_type);
     let FrontStep::Got(f, c2) = a2 else {
-        return HeaderStep::Refused(why_front(a2));
+        return End::Refused(why_front(a2));
     };
     let a3 = lists_into(s, c2, x, l.slice_type, l0, l1);
     let ListsStep::Got(o, c3) = a3 else {
-        return HeaderStep::Refused(why_lists(a3));
+        return End::Refused(why_lists(a3));
     };
     let active_counts = f.active_counts;
     let a4 = weights_for_into(s, c3, x, l.slice_type, active_counts, w0, w1);
     let WeightsStep::Got(weights, c4) = a4 else {
-        return HeaderStep::Refused(why_weights(a4));
+        return End::Refused(why_weights(a4));
     };
     let a5 = marks_into(s, c4, x, marking);
     let MarksStep::Got(m, c5) = a5 else {
-        return HeaderStep::Refused(why_marks(a5));
+        return End::Refused(why_marks(a5));
     };
     let a6 = back(s, c5, x, l.slice_type);
     let BackStep::Got(b, c6) = a6 else {
-        return HeaderStep::Refused(why_back(a6));
+        return End::Refused(why_back(a6));
     };
     if !any_set_after(s, c6.at) {
-        return HeaderStep::Refused(refuse(NOTHING_FOLLOWS, 0, c6.at));
+        return End::Refused(refuse(NOTHING_FOLLOWS, 0, c6.at));
     }
     let frame = f.frame;
     let order_count = f.order_count;
@@ -264,57 +263,151 @@ fn fill<'a>(
     let adaptive = flags.adaptive_ref_pic_marking_mode_flag;
     let quantiser = b.quantiser;
     let filter = b.filter;
-    HeaderStep::Got(
-        HeaderShort {
-            first_mb_in_slice: l.first_mb_in_slice,
-            slice_type: l.slice_type,
-            pic_parameter_set_id: l.pic_parameter_set_id,
-            seq_parameter_set_id: picture.seq_parameter_set_id,
-            frame,
-            order_count,
-            active_counts,
-            ref_pic_list_modification_flag_l0: flag0,
-            modifications_l0: o.count0,
-            ref_pic_list_modification_flag_l1: flag1,
-            modifications_l1: o.count1,
-            weights,
-            no_output_of_prior_pics_flag: no_output,
-            long_term_reference_flag: long_term,
-            adaptive_ref_pic_marking_mode_flag: adaptive,
-            markings: m.count,
-            quantiser,
-            filter,
-        },
-        c6,
-    )
+    let h = HeaderShort {
+        first_mb_in_slice: l.first_mb_in_slice,
+        slice_type: l.slice_type,
+        pic_parameter_set_id: l.pic_parameter_set_id,
+        seq_parameter_set_id: picture.seq_parameter_set_id,
+        frame,
+        order_count,
+        active_counts,
+        ref_pic_list_modification_flag_l0: flag0,
+        modifications_l0: o.count0,
+        ref_pic_list_modification_flag_l1: flag1,
+        modifications_l1: o.count1,
+        weights,
+        no_output_of_prior_pics_flag: no_output,
+        long_term_reference_flag: long_term,
+        adaptive_ref_pic_marking_mode_flag: adaptive,
+        markings: m.count,
+        quantiser,
+        filter,
+    };
+    *numbers = [
+        h.first_mb_in_slice,
+        h.slice_type,
+        h.pic_parameter_set_id,
+        h.seq_parameter_set_id,
+        h.frame.colour_plane_id.there as u32,
+        h.frame.colour_plane_id.value,
+        h.frame.frame_num,
+        h.frame.field_pic_flag.there as u32,
+        h.frame.field_pic_flag.value as u32,
+        h.frame.bottom_field_flag.there as u32,
+        h.frame.bottom_field_flag.value as u32,
+        h.frame.idr_pic_id.there as u32,
+        h.frame.idr_pic_id.value,
+        h.order_count.pic_order_cnt_lsb.there as u32,
+        h.order_count.pic_order_cnt_lsb.value,
+        h.order_count.delta_pic_order_cnt_bottom.there as u32,
+        h.order_count.delta_pic_order_cnt.there as u32,
+        h.order_count.redundant_pic_cnt.there as u32,
+        h.order_count.redundant_pic_cnt.value,
+        h.active_counts.direct_spatial_mv_pred_flag.there as u32,
+        h.active_counts.direct_spatial_mv_pred_flag.value as u32,
+        h.active_counts.num_ref_idx_active_override_flag.there as u32,
+        h.active_counts.num_ref_idx_active_override_flag.value as u32,
+        h.active_counts.num_ref_idx_l0_active_minus1.there as u32,
+        h.active_counts.num_ref_idx_l0_active_minus1.value,
+        h.active_counts.num_ref_idx_l1_active_minus1.there as u32,
+        h.active_counts.num_ref_idx_l1_active_minus1.value,
+        h.ref_pic_list_modification_flag_l0.there as u32,
+        h.ref_pic_list_modification_flag_l0.value as u32,
+        h.modifications_l0,
+        h.ref_pic_list_modification_flag_l1.there as u32,
+        h.ref_pic_list_modification_flag_l1.value as u32,
+        h.modifications_l1,
+        h.weights.there as u32,
+        h.weights.luma_log2_weight_denom,
+        h.weights.chroma_log2_weight_denom.there as u32,
+        h.weights.chroma_log2_weight_denom.value,
+        h.weights.l0,
+        h.weights.l1,
+        h.no_output_of_prior_pics_flag.there as u32,
+        h.no_output_of_prior_pics_flag.value as u32,
+        h.long_term_reference_flag.there as u32,
+        h.long_term_reference_flag.value as u32,
+        h.adaptive_ref_pic_marking_mode_flag.there as u32,
+        h.adaptive_ref_pic_marking_mode_flag.value as u32,
+        h.markings,
+        h.quantiser.cabac_init_idc.there as u32,
+        h.quantiser.cabac_init_idc.value,
+        h.quantiser.sp_for_switch_flag.there as u32,
+        h.quantiser.sp_for_switch_flag.value as u32,
+        h.quantiser.slice_qs_delta.there as u32,
+        h.filter.disable_deblocking_filter_idc.there as u32,
+        h.filter.disable_deblocking_filter_idc.value,
+        h.filter.slice_alpha_c0_offset_div2.there as u32,
+        h.filter.slice_beta_offset_div2.there as u32,
+        h.filter.slice_group_change_cycle.there as u32,
+        h.filter.slice_group_change_cycle.value,
+    ];
+    *signed = [
+        h.order_count.delta_pic_order_cnt_bottom.value,
+        h.order_count.delta_pic_order_cnt.first,
+        h.order_count.delta_pic_order_cnt.second,
+        h.quantiser.slice_qp_delta,
+        h.quantiser.slice_qs_delta.value,
+        h.filter.slice_alpha_c0_offset_div2.value,
+        h.filter.slice_beta_offset_div2.value,
+    ];
+    End::At(c6)
 }
 
-// The header at the start of a slice unit's unescaped body, by the table whose arrays are lent. Beside a refusal the words are zeros.
-pub fn read_header_into<'a>(
-    s: &'a [u8],
-    kind: UnitKind,
-    sequences: &'a [u32; 224],
-    pictures: &'a [u32; 2048],
+// All words of a header.
+pub fn clear_header(
+    numbers: &mut [u32; 57],
+    signed: &mut [i32; 7],
     l0: &mut [u32; 198],
     l1: &mut [u32; 198],
     marking: &mut [u32; 198],
     w0: &mut [i32; 256],
     w1: &mut [i32; 256],
-) -> HeaderStep
-    ensures { λ r. ⌜ r ≡ headerStep (readHeader (tableOf (now (sequences .entry)) (now (pictures .entry))) kind (bitsOf (now (s .entry)))) ⌝ }
-    ensures { λ r. ⌜ now (l0 .exit) ≡ wordsLeft (λ h. h .modifications .l0 .operations) (readHeader (tableOf (now (sequences .entry)) (now (pictures .entry))) kind (bitsOf (now (s .entry)))) ⌝ }
-    ensures { λ r. ⌜ now (l1 .exit) ≡ wordsLeft (λ h. h .modifications .l1 .operations) (readHeader (tableOf (now (sequences .entry)) (now (pictures .entry))) kind (bitsOf (now (s .entry)))) ⌝ }
-    ensures { λ r. ⌜ now (marking .exit) ≡ wordsLeft (λ h. h .«dec_ref_pic_marking» .operations) (readHeader (tableOf (now (sequences .entry)) (now (pictures .entry))) kind (bitsOf (now (s .entry)))) ⌝ }
-    ensures { λ r. ⌜ now (w0 .exit) ≡ weightsOf (λ h. h .«pred_weight_table» .l0) (readHeader (tableOf (now (sequences .entry)) (now (pictures .entry))) kind (bitsOf (now (s .entry)))) ⌝ }
-    ensures { λ r. ⌜ now (w1 .exit) ≡ weightsOf (λ h. h .«pred_weight_table» .l1) (readHeader (tableOf (now (sequences .entry)) (now (pictures .entry))) kind (bitsOf (now (s .entry)))) ⌝ }
+)
+    ensures { λ _. ⌜ _≡_ {A = HeaderWords} (record { numbers = now (numbers .exit); signed = now (signed .exit); l0 = now (l0 .exit); l1 = now (l1 .exit); marking = now (marking .exit); w0 = now (w0 .exit); w1 = now (w1 .exit) }) zeros ⌝ }
 {
-    let a = fill(s, kind, sequences, pictures, l0, l1, marking, w0, w1);
-    let HeaderStep::Got(_, _) = a else {
-        clear_list(l0);
-        clear_list(l1);
-        clear_list(marking);
-        clear_weights(w0);
-        clear_weights(w1);
+    *numbers = [0; 57];
+    *signed = [0; 7];
+    clear_list(l0);
+    clear_list(l1);
+    clear_list(marking);
+    clear_weights(w0);
+    clear_weights(w1);
+}
+
+// The header at the start of a slice unit's unescaped body, by the table whose arrays are lent. All words of its fields are written; a list's words behind its last
+// entry stay as they were. Beside a refusal all words are zeros.
+pub fn read_header_into<'a>(
+    s: &'a [u8],
+    kind: UnitKind,
+    sequences: &'a [u32; 224],
+    pictures: &'a [u32; 2048],
+    numbers: &mut [u32; 57],
+    signed: &mut [i32; 7],
+    l0: &mut [u32; 198],
+    l1: &mut [u32; 198],
+    marking: &mut [u32; 198],
+    w0: &mut [i32; 256],
+    w1: &mut [i32; 256],
+) -> End
+    ensures { λ r. ⌜ r ≡ headerEnd (readHeader (tableOf (now (sequences .entry)) (now (pictures .entry))) kind (bitsOf (now (s .entry)))) ⌝ }
+    ensures words { λ r. ⌜ _≡_ {A = HeaderWords} (record { numbers = now (numbers .exit); signed = now (signed .exit); l0 = now (l0 .exit); l1 = now (l1 .exit); marking = now (marking .exit); w0 = now (w0 .exit); w1 = now (w1 .exit) }) (headerLeft (readHeader (tableOf (now (sequences .entry)) (now (pictures .entry))) kind (bitsOf (now (s .entry)))) (record { numbers = now (numbers .entry); signed = now (signed .entry); l0 = now (l0 .entry); l1 = now (l1 .entry); marking = now (marking .entry); w0 = now (w0 .entry); w1 = now (w1 .entry) })) ⌝ }
+{
+    let a = fill(
+        s,
+        kind,
+        sequences,
+        pictures,
+        numbers,
+        signed,
+        l0,
+        l1,
+        marking,
+        w0,
+        w1,
+    );
+    let End::At(_) = a else {
+        clear_header(numbers, signed, l0, l1, marking, w0, w1);
         return a;
     };
     a
