@@ -30,8 +30,8 @@ pub struct Led {
 }
 
 pub enum LeadStep {
-    Got(Led, Cursor),
     Refused(Refusal),
+    Got(Led, Cursor),
 }
 
 // The refusal of an answer that is one, for a `let .. else`, which cannot bind it.

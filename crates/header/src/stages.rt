@@ -49,8 +49,8 @@ pub struct FrontParts {
 }
 
 pub enum FrontStep {
-    Got(FrontParts, Cursor),
     Refused(Refusal),
+    Got(FrontParts, Cursor),
 }
 
 // The flags of dec_ref_pic_marking( )

@@ -86,8 +86,8 @@ pub(crate) struct Lists {
 }
 
 pub(crate) enum ListsStep {
-    Got(Lists, Cursor),
     Refused(Refusal),
+    Got(Lists, Cursor),
 }
 
 // dec_ref_pic_marking( ) without its list
@@ -97,8 +97,8 @@ pub(crate) struct Marks {
 }
 
 pub(crate) enum MarksStep {
-    Got(Marks, Cursor),
     Refused(Refusal),
+    Got(Marks, Cursor),
 }
 
 fn why_lists(a: ListsStep) -> Refusal

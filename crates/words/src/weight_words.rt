@@ -39,8 +39,8 @@ pub struct WeightsShort {
 }
 
 pub enum WeightsStep {
-    Got(WeightsShort, Cursor),
     Refused(Refusal),
+    Got(WeightsShort, Cursor),
 }
 
 // How many entries a list has.
