@@ -48,7 +48,7 @@ module _ {A B : Type 0} (f : A → List B) (n : ℕ) where
       let e : 0 + length (flatMap f (take i xs)) ≡ n * i = zero-add _ ∙ flat-length size (take i xs) ∙ rw (length-take-le i xs (omega arith)) in
       rw (add-one, take-suc-set xs i a h, flat-snoc, sets-append, e)
 
-  pub flat-replicate : (z : A) (b : B) → f z ≡ replicate n b → (k : ℕ) → flatMap f (replicate k z) ≡ replicate (n * k) b
+  flat-replicate : (z : A) (b : B) → f z ≡ replicate n b → (k : ℕ) → flatMap f (replicate k z) ≡ replicate (n * k) b
   unfolding flatMap
   flat-replicate z b e zero = ap (λ (j : ℕ). replicate j b) (sym (mul-zero n))
   flat-replicate z b e (suc k) =
@@ -65,10 +65,6 @@ rest w = w .«luma_weight» ∷ w .«luma_offset» ∷ flagWord (w .«chroma_wei
 
 pub entry-written : (t : List ℤ) (k : ℕ) (w : Weight) → storeFrom (set t k (flagWord (w .«luma_weight_flag»))) k 1 (rest w) ≡ sets t k (entryWords w)
 entry-written t k w = sym (stored t k (flagWord (w .«luma_weight_flag»)) (rest w))
-
-pub entry-stored : (t : List ℤ) (xs : List Weight) (i : ℕ) (w : Weight) → i < length xs
-    → sets (sets t 0 (flatMap entryWords (take i xs))) (8 * i) (entryWords w) ≡ sets t 0 (flatMap entryWords (take (i + 1) (set xs i w)))
-entry-stored = flat-next entryWords 8 (λ w. refl)
 
 pub unused-words : flatMap entryWords (replicate 32 noWeight) ≡ replicate 256 (pos 0)
 unused-words = flat-replicate entryWords 8 noWeight (pos 0) refl 32

@@ -28,40 +28,7 @@ use Rattle.words.specs.declared.weight_words.WeightsStep.{WeightsStep}
 use Rattle.words.specs.declared.weight_words.ListStep.{ListStep}
 use Rattle.weights.proofs.Filled.{Filled, filled-none, filled-refused, filled-all, filled-more}
 use Rattle.weights.proofs.Tables.{table-there}
-use Rattle.words.proofs.Entries.{entry-stored}
-
--- ---- a list's answer and words
-
-pub list-refused : {m : Res WeightList} {r : Refusal} (before v : List ℤ) → m ≡ no r → (ListStep.Refused r ≡ listStep m) × Written weightWords m before v
-unfolding Written
-list-refused before v e = rw e (refl, tt)
-
-pub list-got : {m : Res WeightList} {l : WeightList} {e : ℕ} (before : List ℤ) {v : List ℤ} → m ≡ got l e → v ≡ sets before 0 (weightWords l)
-    → (ListStep.Got (l .count) (record { at = e }) ≡ listStep m) × Written weightWords m before v
-unfolding Written
-list-got before e h = rw e (refl, h)
-
--- and back: a call's answer a, and the words v after it
-pub record Listed (m : Res WeightList) (k at : ℕ) (before v : List ℤ) : Type 0 where
-  pub list : WeightList
-  pub read : m ≡ got list at
-  pub many : list .count ≡ k
-  pub holds : v ≡ sets before 0 (weightWords list)
-
-apart : {k : ℕ} {c : Cursor} {r : Refusal} → ListStep.Got k c ≡ ListStep.Refused r → ⊥
-apart e = let z : _≡_ {A = ℕ} 0 1 = cc in omega arith
-
-pub list-taken : {m : Res WeightList} {a : ListStep} {k : ℕ} {c : Cursor} {before v : List ℤ} → a ≡ listStep m → a ≡ ListStep.Got k c → Written weightWords m before v
-    → Listed m k (c .at) before v
-unfolding Written
-list-taken {m = got l e} {c = c} p q h =
-    let g : _≡_ {A = Cursor} (record { at = e }) c = cc in
-    record { list = l; read = ap (λ (x : Cursor). got l (x .at)) g; many = cc; holds = h }
-list-taken {m = no r} p q h = absurd (apart (sym q ∙ p))
-
-pub list-none : {m : Res WeightList} {a : ListStep} {r q : Refusal} → a ≡ listStep m → a ≡ ListStep.Refused q → r ≡ whyList a → m ≡ no r
-list-none {m = got l e} p q w = absurd (apart (sym p ∙ q))
-list-none {m = no r} p q w = ap {B = Res WeightList} no (sym (w ∙ ap whyList p))
+use Rattle.words.proofs.Entries.{flat-next}
 
 -- ---- the loop
 
@@ -79,28 +46,50 @@ module _ (chroma : Bool) (n : ℕ) (s : Bits) (from : ℕ) (before : List ℤ) w
   module _ {words : List ℤ} {i at : ℕ} (f : Stored words i at) where
     pub stored-refused : i < n → {r : Refusal} (v : List ℤ) → weight chroma .read s at ≡ no r
         → (ListStep.Refused r ≡ listStep (weightList chroma n .read s from)) × Written weightWords (weightList chroma n .read s from) before v
-    stored-refused h {r} v u = list-refused before v (filled-refused chroma n s from (f .filled) h r u)
+    unfolding Written
+    stored-refused h {r} v u = rw (filled-refused chroma n s from (f .filled) h r u) (refl, tt)
 
     pub stored-all : n ≤ i
         → (ListStep.Got n (record { at = at }) ≡ listStep (weightList chroma n .read s from)) × Written weightWords (weightList chroma n .read s from) before words
-    unfolding weightWords
+    unfolding Written weightWords
     stored-all h =
         let e : i ≡ n = omega (arith, f .filled .many, f .filled .along .few) in
-        list-got before (filled-all chroma n s from (f .filled) h) (f .holds ∙ rw e)
+        rw (filled-all chroma n s from (f .filled) h) (refl, f .holds ∙ rw e)
 
     pub stored-more : i < n → {w : Weight} {e : ℕ} {v : List ℤ} → weight chroma .read s at ≡ got w e → v ≡ sets words (8 * i) (entryWords w) → Stored v (i + 1) e
     stored-more h {w} {e} {v} u k =
         let b : i < length (f .entries) = omega (arith, f .filled .size, f .filled .room) in
         record {
           entries = set (f .entries) i w;
-          holds = k ∙ rw (f .holds) (entry-stored before (f .entries) i w b);
+          holds = k ∙ rw (f .holds) (flat-next entryWords 8 (λ w. refl) before (f .entries) i w b);
           filled = filled-more chroma n s from (f .filled) h w e u;
         }
+
+-- ---- a list as a call left it
+
+-- with its words v, which were `before`
+pub record Listed (m : Res WeightList) (k at : ℕ) (before v : List ℤ) : Type 0 where
+  pub list : WeightList
+  pub read : m ≡ got list at
+  pub many : list .count ≡ k
+  pub holds : v ≡ sets before 0 (weightWords list)
+
+pub list-taken : {m : Res WeightList} {a : ListStep} {k : ℕ} {c : Cursor} {before v : List ℤ} → a ≡ listStep m → a ≡ ListStep.Got k c → Written weightWords m before v
+    → Listed m k (c .at) before v
+unfolding Written
+list-taken {m = got l e} {c = c} p q h =
+    let g : _≡_ {A = Cursor} (record { at = e }) c = cc in
+    record { list = l; read = ap (λ (x : Cursor). got l (x .at)) g; many = cc; holds = h }
+list-taken {m = no r} p q h = let z : _≡_ {A = ℕ} 0 1 = cc in absurd (omega arith)
+
+pub list-none : {m : Res WeightList} {a : ListStep} {r q : Refusal} → a ≡ listStep m → a ≡ ListStep.Refused q → r ≡ whyList a → m ≡ no r
+list-none {m = got l e} p q w = cc
+list-none {m = no r} p q w = ap {B = Res WeightList} no (sym (w ∙ ap whyList p))
 
 -- ---- the table's answer and words
 
 -- an answer for what reading finds, beside the words before it and after it
-abbrev pub Answer : Res PredWeightTable → WeightsStep → List ℤ → List ℤ → List ℤ → List ℤ → Type 0
+abbrev Answer : Res PredWeightTable → WeightsStep → List ℤ → List ℤ → List ℤ → List ℤ → Type 0
 Answer m a b0 b1 v0 v1 = (a ≡ weightsStep m) × (Written (λ t. weightWords (t .l0)) m b0 v0 × Written (λ t. weightWords (t .l1)) m b1 v1)
 
 pub table-refused : {m : Res PredWeightTable} (b0 b1 v0 v1 : List ℤ) {r : Refusal} → m ≡ no r → Answer m (WeightsStep.Refused r) b0 b1 v0 v1
