@@ -5,7 +5,7 @@ use mathlib.Core.List.{List, flatMap}
 use mathlib.Core.Bool.{Bool, true, false}
 use native.Mathlib.Omega.{arith}
 use lib.IntN.{ℤ, pos}
-use lib.ListN.{length, set, replicate}
+use lib.ListN.{length, set, take, replicate}
 use lib.Seq.{sets}
 use Rattle.bits.specs.declared.refusals.Refusal.{Refusal}
 use Rattle.bits.specs.declared.read.Cursor.{Cursor}
@@ -21,116 +21,120 @@ use Rattle.syntax.specs.declared.record.Weight.{Weight}
 use Rattle.syntax.specs.declared.record.WeightList.{WeightList}
 use Rattle.syntax.specs.declared.record.PredWeightTable.{PredWeightTable}
 use Rattle.weights.specs.Counts.{noWeights, noTable}
-use Rattle.words.specs.WeightsLent.{entryWords, weightWords, weightsLeft, weightsShort, weightsStep, listLeft, listStep, whyList}
+use Rattle.words.specs.Leaves.{leaves}
+use Rattle.words.specs.WeightsLent.{entryWords, weightWords, weightsLeft, weightsStep, Written, listStep, whyList}
+use Rattle.words.specs.declared.weight_words.WeightsShort.{WeightsShort}
 use Rattle.words.specs.declared.weight_words.WeightsStep.{WeightsStep}
 use Rattle.words.specs.declared.weight_words.ListStep.{ListStep}
 use Rattle.weights.proofs.Filled.{Filled, filled-none, filled-refused, filled-all, filled-more}
 use Rattle.weights.proofs.Tables.{table-there}
-use Rattle.words.proofs.Entries.{entry-stored, unused-words}
-
--- ---- a list's answer and words
-
-pub list-refused : {m : Res WeightList} {r : Refusal} {v : List ℤ} → m ≡ no r → v ≡ replicate 256 (pos 0) → (ListStep.Refused r ≡ listStep m) × (v ≡ listLeft m)
-unfolding listLeft
-list-refused e h = rw e (refl, h)
-
-pub list-got : {m : Res WeightList} {l : WeightList} {e : ℕ} {v : List ℤ} → m ≡ got l e → v ≡ weightWords l
-    → (ListStep.Got (l .count) (record { at = e }) ≡ listStep m) × (v ≡ listLeft m)
-unfolding listLeft
-list-got e h = rw e (refl, h)
-
--- and back: a call's answer a, and the words v after it
-pub record Listed (m : Res WeightList) (k at : ℕ) (v : List ℤ) : Type 0 where
-  pub list : WeightList
-  pub read : m ≡ got list at
-  pub many : list .count ≡ k
-  pub holds : v ≡ weightWords list
-
-apart : {k : ℕ} {c : Cursor} {r : Refusal} → ListStep.Got k c ≡ ListStep.Refused r → ⊥
-apart e = let z : _≡_ {A = ℕ} 0 1 = cc in omega arith
-
-pub list-taken : {m : Res WeightList} {a : ListStep} {k : ℕ} {c : Cursor} {v : List ℤ} → a ≡ listStep m → a ≡ ListStep.Got k c → v ≡ listLeft m → Listed m k (c .at) v
-unfolding listLeft
-list-taken {m = got l e} {c = c} p q h =
-    let g : _≡_ {A = Cursor} (record { at = e }) c = cc in
-    record { list = l; read = ap (λ (x : Cursor). got l (x .at)) g; many = cc; holds = h }
-list-taken {m = no r} p q h = absurd (apart (sym q ∙ p))
-
-pub list-none : {m : Res WeightList} {a : ListStep} {r q : Refusal} {v : List ℤ} → a ≡ listStep m → a ≡ ListStep.Refused q → r ≡ whyList a → v ≡ listLeft m
-    → (m ≡ no r) × (v ≡ replicate 256 (pos 0))
-unfolding listLeft
-list-none {m = got l e} p q w h = absurd (apart (sym p ∙ q))
-list-none {m = no r} p q w h = (ap {B = Res WeightList} no (sym (w ∙ ap whyList p)), h)
+use Rattle.words.proofs.Entries.{flat-next}
 
 -- ---- the loop
 
-module _ (chroma : Bool) (n : ℕ) (s : Bits) (from : ℕ) where
-  -- i entries have been read into the words, and the next is at `at`
+module _ (chroma : Bool) (n : ℕ) (s : Bits) (from : ℕ) (before : List ℤ) where
+  -- i entries have been read and are written over the words' front, and the next is at `at`
   pub record Stored (words : List ℤ) (i at : ℕ) : Type 0 where
-    pub room : n ≤ 32
     pub entries : List Weight
-    pub holds : words ≡ flatMap entryWords entries
+    pub holds : words ≡ sets before 0 (flatMap entryWords (take i entries))
     pub filled : Filled chroma n s from entries i at
 
-  pub stored-none : n ≤ 32 → {v : List ℤ} → v ≡ replicate 256 (pos 0) → Stored v 0 from
-  stored-none h e =
-      record { room = h; entries = replicate 32 noWeight; holds = e ∙ sym unused-words; filled = filled-none chroma n s from h (replicate 32 noWeight) refl }
+  pub stored-none : n ≤ 32 → Stored before 0 from
+  unfolding flatMap
+  stored-none h = record { entries = replicate 32 noWeight; holds = refl; filled = filled-none chroma n s from h (replicate 32 noWeight) refl }
 
   module _ {words : List ℤ} {i at : ℕ} (f : Stored words i at) where
-    pub stored-refused : i < n → {r : Refusal} {v : List ℤ} → weight chroma .read s at ≡ no r → v ≡ replicate 256 (pos 0)
-        → (ListStep.Refused r ≡ listStep (weightList chroma n .read s from)) × (v ≡ listLeft (weightList chroma n .read s from))
-    stored-refused h {r} u e = list-refused (filled-refused chroma n s from (f .filled) h r u) e
+    pub stored-refused : i < n → {r : Refusal} (v : List ℤ) → weight chroma .read s at ≡ no r
+        → (ListStep.Refused r ≡ listStep (weightList chroma n .read s from)) × Written weightWords (weightList chroma n .read s from) before v
+    unfolding Written
+    stored-refused h {r} v u = rw (filled-refused chroma n s from (f .filled) h r u) (refl, tt)
 
     pub stored-all : n ≤ i
-        → (ListStep.Got n (record { at = at }) ≡ listStep (weightList chroma n .read s from)) × (words ≡ listLeft (weightList chroma n .read s from))
-    unfolding weightWords
-    stored-all h = list-got (filled-all chroma n s from (f .filled) h) (f .holds)
+        → (ListStep.Got n (record { at = at }) ≡ listStep (weightList chroma n .read s from)) × Written weightWords (weightList chroma n .read s from) before words
+    unfolding Written weightWords
+    stored-all h =
+        let e : i ≡ n = omega (arith, f .filled .many, f .filled .along .few) in
+        rw (filled-all chroma n s from (f .filled) h) (refl, f .holds ∙ rw e)
 
     pub stored-more : i < n → {w : Weight} {e : ℕ} {v : List ℤ} → weight chroma .read s at ≡ got w e → v ≡ sets words (8 * i) (entryWords w) → Stored v (i + 1) e
     stored-more h {w} {e} {v} u k =
-        let b : i < length (f .entries) = omega (arith, f .filled .size, f .room) in
+        let b : i < length (f .entries) = omega (arith, f .filled .size, f .filled .room) in
         record {
-          room = f .room;
           entries = set (f .entries) i w;
-          holds = k ∙ rw (f .holds) (entry-stored (f .entries) i w b);
+          holds = k ∙ rw (f .holds) (flat-next entryWords 8 (λ w. refl) before (f .entries) i w b);
           filled = filled-more chroma n s from (f .filled) h w e u;
         }
 
+-- ---- a list as a call left it
+
+-- with its words v, which were `before`
+pub record Listed (m : Res WeightList) (k at : ℕ) (before v : List ℤ) : Type 0 where
+  pub list : WeightList
+  pub read : m ≡ got list at
+  pub many : list .count ≡ k
+  pub holds : v ≡ sets before 0 (weightWords list)
+
+pub list-taken : {m : Res WeightList} {a : ListStep} {k : ℕ} {c : Cursor} {before v : List ℤ} → a ≡ listStep m → a ≡ ListStep.Got k c → Written weightWords m before v
+    → Listed m k (c .at) before v
+unfolding Written
+list-taken {m = got l e} {c = c} p q h =
+    let g : _≡_ {A = Cursor} (record { at = e }) c = cc in
+    record { list = l; read = ap (λ (x : Cursor). got l (x .at)) g; many = cc; holds = h }
+list-taken {m = no r} p q h = let z : _≡_ {A = ℕ} 0 1 = cc in absurd (omega arith)
+
+pub list-none : {m : Res WeightList} {a : ListStep} {r q : Refusal} → a ≡ listStep m → a ≡ ListStep.Refused q → r ≡ whyList a → m ≡ no r
+list-none {m = got l e} p q w = cc
+list-none {m = no r} p q w = ap {B = Res WeightList} no (sym (w ∙ ap whyList p))
+
 -- ---- the table's answer and words
 
-module _ {m : Res PredWeightTable} {v0 v1 : List ℤ} where
-  pub table-refused : {r : Refusal} → m ≡ no r → v0 ≡ replicate 256 (pos 0) → v1 ≡ replicate 256 (pos 0)
-      → (WeightsStep.Refused r ≡ weightsStep m) × ((v0 ≡ weightsLeft (λ t. t .l0) m) × (v1 ≡ weightsLeft (λ t. t .l1) m))
-  unfolding weightsLeft
-  table-refused e h0 h1 = rw e (refl, (h0, h1))
+-- an answer for what reading finds, beside the words before it and after it
+abbrev Answer : Res PredWeightTable → WeightsStep → List ℤ → List ℤ → List ℤ → List ℤ → Type 0
+Answer m a b0 b1 v0 v1 = (a ≡ weightsStep m) × (Written (λ t. weightWords (t .l0)) m b0 v0 × Written (λ t. weightWords (t .l1)) m b1 v1)
 
-  pub table-got : {t : PredWeightTable} {e : ℕ} → m ≡ got t e → v0 ≡ weightWords (t .l0) → v1 ≡ weightWords (t .l1)
-      → (WeightsStep.Got (weightsShort t) (record { at = e }) ≡ weightsStep m) × ((v0 ≡ weightsLeft (λ t. t .l0) m) × (v1 ≡ weightsLeft (λ t. t .l1) m))
-  unfolding weightsLeft
-  table-got e h0 h1 = rw e (refl, (h0, h1))
-
--- the words of a list with no entries
-pub no-words : weightWords noWeights ≡ replicate 256 (pos 0)
-unfolding weightWords noWeights
-no-words = unused-words
+pub table-refused : {m : Res PredWeightTable} (b0 b1 v0 v1 : List ℤ) {r : Refusal} → m ≡ no r → Answer m (WeightsStep.Refused r) b0 b1 v0 v1
+unfolding Written
+table-refused b0 b1 v0 v1 e = rw e (refl, (tt, tt))
 
 -- a table that is absent
-pub table-none : {m : Res PredWeightTable} {v0 v1 : List ℤ} {e : ℕ} → m ≡ got noTable e → v0 ≡ replicate 256 (pos 0) → v1 ≡ replicate 256 (pos 0)
-    → (WeightsStep.Got
+pub table-none : {m : Res PredWeightTable} (b0 b1 : List ℤ) {e : ℕ} → m ≡ got noTable e
+    → Answer
+    m
+    (WeightsStep.Got
     (record { there = false; «luma_log2_weight_denom» = 0; «chroma_log2_weight_denom» = record { there = false; value = 0 }; l0 = 0; l1 = 0 })
-    (record { at = e })
-    ≡ weightsStep m)
-    × ((v0 ≡ weightsLeft (λ t. t .l0) m) × (v1 ≡ weightsLeft (λ t. t .l1) m))
-unfolding noTable noWeights
-table-none e h0 h1 = table-got e (h0 ∙ sym no-words) (h1 ∙ sym no-words)
+    (record { at = e }))
+    b0
+    b1
+    b0
+    b1
+unfolding Written noTable noWeights weightWords flatMap
+table-none b0 b1 e = rw e (refl, (refl, refl))
 
 -- a table that is there, with its lists as the calls left them
-pub table-listed : {m : Res PredWeightTable} {m0 m1 : Res WeightList} {k0 k1 f g : ℕ} {v0 v1 : List ℤ} (a : Listed m0 k0 f v0) (b : Listed m1 k1 g v1) {v : ℕ} {w : MarkedNumber}
+pub table-listed : {m : Res PredWeightTable} {m0 m1 : Res WeightList} {k0 k1 f g : ℕ} {b0 b1 v0 v1 : List ℤ} (a : Listed m0 k0 f b0 v0) (b : Listed m1 k1 g b1 v1) {v : ℕ} {w : MarkedNumber}
     → m ≡ got (record { there = true; «luma_log2_weight_denom» = v; «chroma_log2_weight_denom» = w; l0 = a .list; l1 = b .list }) g
-    → (WeightsStep.Got (record { there = true; «luma_log2_weight_denom» = v; «chroma_log2_weight_denom» = w; l0 = k0; l1 = k1 }) (record { at = g }) ≡ weightsStep m)
-    × ((v0 ≡ weightsLeft (λ t. t .l0) m) × (v1 ≡ weightsLeft (λ t. t .l1) m))
-unfolding weightsLeft
+    → Answer
+    m
+    (WeightsStep.Got (record { there = true; «luma_log2_weight_denom» = v; «chroma_log2_weight_denom» = w; l0 = k0; l1 = k1 }) (record { at = g }))
+    b0
+    b1
+    v0
+    v1
+unfolding Written
 table-listed a b e = rw e (rw (a .many, b .many), (a .holds, b .holds))
+
+-- what is left in a list's words: of a table that was read, and beside a refusal
+pub left-read : (m : Res PredWeightTable) (list : PredWeightTable → WeightList) (before : List ℤ) {v : List ℤ} {a : WeightsStep} {t : WeightsShort} {c : Cursor}
+    → a ≡ weightsStep m → a ≡ WeightsStep.Got t c → Written (λ t. weightWords (list t)) m before v → v ≡ weightsLeft list m before
+unfolding Written leaves
+left-read (got t e) list before p q h = h
+left-read (no r) list before p q h = cc
+
+pub left-refused : (m : Res PredWeightTable) (list : PredWeightTable → WeightList) (before : List ℤ) {v : List ℤ} {a : WeightsStep} {r : Refusal}
+    → a ≡ weightsStep m → a ≡ WeightsStep.Refused r → v ≡ replicate 256 (pos 0) → v ≡ weightsLeft list m before
+unfolding leaves
+left-refused (got t e) list before p q h = cc
+left-refused (no r) list before p q h = h
 
 -- ---- a table that is there, by what each of its parts gives
 

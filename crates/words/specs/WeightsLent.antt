@@ -1,8 +1,10 @@
 -- The table read into lent words: eight an entry, in the syntax's order, with flags as 0 and 1.
+use mathlib.Core.Path.{_≡_}
 use mathlib.Core.Bool.{Bool}
 use mathlib.Core.List.{List, [], _∷_, flatMap}
 use lib.IntN.{ℤ, pos}
 use lib.ListN.{take, replicate}
+use lib.Seq.{sets}
 use Rattle.bits.specs.Refusals.{Res, got, no, pick}
 use Rattle.bits.specs.Answers.{none}
 use Rattle.bits.specs.declared.refusals.Refusal.{Refusal}
@@ -48,10 +50,12 @@ abbrev pub whyWeights : WeightsStep → Refusal
 whyWeights (WeightsStep.Got w c) = none
 whyWeights (WeightsStep.Refused r) = r
 
--- ---- private contracts: a list
+-- ---- private contracts
 
-abbrev pub listLeft : Res WeightList → List ℤ → List ℤ
-listLeft = leaves (replicate 256 (pos 0)) weightWords
+-- what was read is written over the front of the words; after a refusal nothing is said of them
+unfoldable pub Written : {A : Type 0} → (A → List ℤ) → Res A → List ℤ → List ℤ → Type 0
+Written words (got a e) before after = after ≡ sets before 0 (words a)
+Written words (no r) before after = Unit {0}
 
 abbrev pub listStep : Res WeightList → ListStep
 listStep (got l e) = ListStep.Got (l .count) (record { at = e })

@@ -26,7 +26,7 @@ ghost use lib.Seq.{sets};
 ghost use Rattle.bits.specs.Bits.{bitsOf};
 ghost use Rattle.syntax.specs.SliceHeader.{weightList, predWeightTable};
 ghost use Rattle.weights.specs.Counts.{atMost32};
-ghost use Rattle.words.specs.WeightsLent.{flagWord, entryWords, weightsLeft, weightsStep, whyWeights, listLeft, listStep, whyList};
+ghost use Rattle.words.specs.WeightsLent.{flagWord, entryWords, weightWords, weightsLeft, weightsStep, whyWeights, Written, listStep, whyList};
 
 // The table without its entries: l0 and l1 are their counts. An entry is eight words, in the syntax's order, with flags as 0 and 1.
 #[repr(C)]
@@ -111,10 +111,10 @@ fn store(words: &mut [i32; 256], i: usize, w: Weight)
     words[k + 7] = cr_offset;
 }
 
-// n entries, at most 32. The words are zeros beside a refusal.
+// n entries, at most 32. After a refusal the words hold what was read before it.
 fn list_into(s: &[u8], c: Cursor, chroma: bool, n: u32, words: &mut [i32; 256]) -> ListStep
     ensures { λ r. ⌜ r ≡ listStep (weightList chroma (atMost32 n) .read (bitsOf (now (s .entry))) (c .at)) ⌝ }
-    ensures { λ r. ⌜ now (words .exit) ≡ listLeft (weightList chroma (atMost32 n) .read (bitsOf (now (s .entry))) (c .at)) (now (words .entry)) ⌝ }
+    ensures { λ r. ⌜ Written weightWords (weightList chroma (atMost32 n) .read (bitsOf (now (s .entry))) (c .at)) (now (words .entry)) (now (words .exit)) ⌝ }
 {
     let count = at_most_32(n);
     let mut i: u32 = 0;
@@ -122,7 +122,6 @@ fn list_into(s: &[u8], c: Cursor, chroma: bool, n: u32, words: &mut [i32; 256]) 
     while i < count {
         let a = weight(s, at, chroma);
         let WeightStep::Got(w, next) = a else {
-            clear_weights(words);
             return ListStep::Refused(why_weight(a));
         };
         let k = i as usize;
@@ -133,8 +132,8 @@ fn list_into(s: &[u8], c: Cursor, chroma: bool, n: u32, words: &mut [i32; 256]) 
     ListStep::Got(count, at)
 }
 
-// The table for lists of n0 and n1 references, at most 32 each. Words that hold no entry stay as they were; all are zeros beside a refusal.
-pub fn weights_into(
+// The table for lists of n0 and n1 references, at most 32 each. After a refusal the words hold what was read before it.
+fn table_into(
     s: &[u8],
     c: Cursor,
     x: Context,
@@ -145,8 +144,8 @@ pub fn weights_into(
     w1: &mut [i32; 256],
 ) -> WeightsStep
     ensures { λ r. ⌜ r ≡ weightsStep (predWeightTable x «slice_type» (atMost32 n0) (atMost32 n1) .read (bitsOf (now (s .entry))) (c .at)) ⌝ }
-    ensures { λ r. ⌜ now (w0 .exit) ≡ weightsLeft (λ t. t .l0) (predWeightTable x «slice_type» (atMost32 n0) (atMost32 n1) .read (bitsOf (now (s .entry))) (c .at)) (now (w0 .entry)) ⌝ }
-    ensures { λ r. ⌜ now (w1 .exit) ≡ weightsLeft (λ t. t .l1) (predWeightTable x «slice_type» (atMost32 n0) (atMost32 n1) .read (bitsOf (now (s .entry))) (c .at)) (now (w1 .entry)) ⌝ }
+    ensures { λ r. ⌜ Written (λ t. weightWords (t .l0)) (predWeightTable x «slice_type» (atMost32 n0) (atMost32 n1) .read (bitsOf (now (s .entry))) (c .at)) (now (w0 .entry)) (now (w0 .exit)) ⌝ }
+    ensures { λ r. ⌜ Written (λ t. weightWords (t .l1)) (predWeightTable x «slice_type» (atMost32 n0) (atMost32 n1) .read (bitsOf (now (s .entry))) (c .at)) (now (w1 .entry)) (now (w1 .exit)) ⌝ }
 {
     if !is_weighted(x, slice_type) {
         return WeightsStep::Got(
@@ -166,24 +165,18 @@ pub fn weights_into(
     let chroma = has_chroma(x);
     let a1 = c.ue(s);
     let Read::Got(luma, c1) = a1 else {
-        clear_weights(w0);
-        clear_weights(w1);
         return WeightsStep::Refused(why(a1));
     };
     let a2 = number_if(s, c1, chroma);
     let NumberStep::Got(m, c2) = a2 else {
-        clear_weights(w0);
-        clear_weights(w1);
         return WeightsStep::Refused(why_number(a2));
     };
     let a3 = list_into(s, c2, chroma, n0, w0);
     let ListStep::Got(k0, c3) = a3 else {
-        clear_weights(w1);
         return WeightsStep::Refused(why_list(a3));
     };
     let a4 = list_into(s, c3, chroma, count_if(is_type(slice_type, B), n1), w1);
     let ListStep::Got(k1, c4) = a4 else {
-        clear_weights(w0);
         return WeightsStep::Refused(why_list(a4));
     };
     WeightsStep::Got(
@@ -196,4 +189,28 @@ pub fn weights_into(
         },
         c4,
     )
+}
+
+// The table as `table_into` reads it. Words that hold no entry stay as they were; all are zeros beside a refusal.
+pub fn weights_into(
+    s: &[u8],
+    c: Cursor,
+    x: Context,
+    slice_type: u32,
+    n0: u32,
+    n1: u32,
+    w0: &mut [i32; 256],
+    w1: &mut [i32; 256],
+) -> WeightsStep
+    ensures { λ r. ⌜ r ≡ weightsStep (predWeightTable x «slice_type» (atMost32 n0) (atMost32 n1) .read (bitsOf (now (s .entry))) (c .at)) ⌝ }
+    ensures { λ r. ⌜ now (w0 .exit) ≡ weightsLeft (λ t. t .l0) (predWeightTable x «slice_type» (atMost32 n0) (atMost32 n1) .read (bitsOf (now (s .entry))) (c .at)) (now (w0 .entry)) ⌝ }
+    ensures { λ r. ⌜ now (w1 .exit) ≡ weightsLeft (λ t. t .l1) (predWeightTable x «slice_type» (atMost32 n0) (atMost32 n1) .read (bitsOf (now (s .entry))) (c .at)) (now (w1 .entry)) ⌝ }
+{
+    let a = table_into(s, c, x, slice_type, n0, n1, w0, w1);
+    let WeightsStep::Got(_, _) = a else {
+        clear_weights(w0);
+        clear_weights(w1);
+        return a;
+    };
+    a
 }

@@ -11,7 +11,7 @@ use Rattle.words.proofs.weight_words.list_into.Statement.{statement}
 use Rattle.words.proofs.weight_words.list_into.Tie as tie
 
 abbrev Inv-loop : tie.InvT-loop
-Inv-loop s chroma n words₀ count i₀ at₀ words i at = Stored chroma count (bitsOf s) (at₀ .at) words i (at .at)
+Inv-loop s chroma n words₀ count i₀ at₀ words i at = Stored chroma count (bitsOf s) (at₀ .at) words₀ words i (at .at)
 
 abbrev μ-loop : tie.MeasureT-loop
 μ-loop s chroma n words₀ count i₀ at₀ words i at = count - i
@@ -20,7 +20,7 @@ at-most-32-requires : tie.Need-at-most-32-requires Inv-loop μ-loop
 at-most-32-requires c κs = search needs
 
 loop-holds : tie.Need-loop-holds Inv-loop μ-loop
-loop-holds c = stored-none _ _ _ _ (rw (c .at-most-32 .ensures) (at-most-32 (c .before .before .args .n))) (c .before .before .pre)
+loop-holds c = stored-none _ _ _ _ _ (rw (c .at-most-32 .ensures) (at-most-32 (c .before .before .args .n)))
 
 weight-requires : tie.Need-weight-requires Inv-loop μ-loop
 weight-requires c κs = search needs
@@ -31,20 +31,17 @@ enum-known-a c = search needs
 enum-told : tie.Need-enum-told Inv-loop μ-loop
 enum-told c = search needs
 
-clear-weights-requires : tie.Need-clear-weights-requires Inv-loop μ-loop
-clear-weights-requires c κs = search needs
-
 why-weight-requires : tie.Need-why-weight-requires Inv-loop μ-loop
 why-weight-requires c κs = search needs
 
 returns : tie.Need-returns Inv-loop μ-loop
 returns c =
-    let t = c .before .before .before in
+    let t = c .before in
     let g = t .before .before in
     let l = g .before .before in
     let a = l .before .before .before .args in
     let u : weight (a .chroma) .read (bitsOf (a .s .now)) (l .loop .at .at) ≡ no (c .why-weight .result) = sym (g .weight .ensures) ∙ rw (c .why-weight .ensures, t .enum-told .given .1) in
-    rw (← l .before .at-most-32 .ensures) (stored-refused _ _ _ _ (l .loop .inv) (search needs) u (c .before .clear-weights .ensures))
+    rw (← l .before .at-most-32 .ensures) (stored-refused _ _ _ _ _ (l .loop .inv) (search needs) _ u)
 
 cast-k : tie.Need-cast-k Inv-loop μ-loop
 cast-k c = search needs
@@ -65,10 +62,10 @@ loop-again c =
     let l = g .before .before in
     let a = l .before .before .before .args in
     let u : weight (a .chroma) .read (bitsOf (a .s .now)) (l .loop .at .at) ≡ got (p .a .given .0 .0) (p .a .given .0 .1 .0 .at) = sym (g .weight .ensures) ∙ ap asWeight (p .a .given .1) in
-    stored-more _ _ _ _ (l .loop .inv) (search needs) u (c .store .ensures)
+    stored-more _ _ _ _ _ (l .loop .inv) (search needs) u (c .store .ensures)
 
 returns-2 : tie.Need-returns-2 Inv-loop μ-loop
-returns-2 c = rw (← c .before .before .at-most-32 .ensures) (stored-all _ _ _ _ (c .before .loop .inv) (search needs))
+returns-2 c = rw (← c .before .before .at-most-32 .ensures) (stored-all _ _ _ _ _ (c .before .loop .inv) (search needs))
 
 pub list-into-spec : {M : Type 1} → statement M
 list-into-spec =
@@ -81,7 +78,6 @@ list-into-spec =
     weight-requires
     enum-known-a
     enum-told
-    clear-weights-requires
     why-weight-requires
     returns
     cast-k
