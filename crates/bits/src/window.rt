@@ -70,7 +70,7 @@ fn eight_or_zeros(s: &[u8], k: usize) -> u64
     g
 }
 
-// The 64 bits from byte k on, where the slice ends within them: its last 64 bits, shifted up.
+// The 64 bits from byte k on, where the slice ends before they do: its last 64 bits, shifted up. Only a slice under 8 bytes goes a byte at a time.
 fn late(s: &[u8], k: usize) -> u64
     requires { ⌜ (k < 2 ^ 62) × (length (now s) ≤ k + 7) ⌝ }
     ensures { λ r. ⌜ r ≡ bitsAt (now (s .entry)) (8 * k) 64 ⌝ }
