@@ -31,15 +31,18 @@ bits-split s p m (suc n) = rw (add-suc, pow-suc, ← add-assoc, ← mul-assoc) (
 pub bits-front : (s : List ℕ) (p m n : ℕ) → bitsAt s p (m + n) / 2 ^ n ≡ bitsAt s p m
 bits-front s p m n = rw bits-split (high (bitsAt s p m) n (bits-lt s (p + m) n))
 
--- a run shifted left by r within its own width, and then right: the n bits from place p + r on
-pub bits-shift : (s : List ℕ) (p r n d : ℕ) → (bitsAt s p (r + (n + d)) * 2 ^ r) % 2 ^ (r + (n + d)) / 2 ^ (r + d) ≡ bitsAt s (p + r) n
+-- a run shifted left by r within its own width: the bits from place p + r on stand above r zeros
+shift-up : (s : List ℕ) (p r n : ℕ) → (bitsAt s p (r + n) * 2 ^ r) % 2 ^ (r + n) ≡ bitsAt s (p + r) n * 2 ^ r
+shift-up s p r n =
+    ap (λ (x : ℕ). x % 2 ^ (r + n)) (ap (λ (x : ℕ). x * 2 ^ r) (bits-split s p r n) ∙ rw (add-mul, mul-assoc, ← pow-add, add-comm n r))
+    ∙ low (bitsAt s p r) (r + n) (rw (add-comm r n) (shl-lt n r (bits-lt s (p + r) n)))
+
+-- and then right: the n bits from place p + r on
+bits-shift : (s : List ℕ) (p r n d : ℕ) → (bitsAt s p (r + (n + d)) * 2 ^ r) % 2 ^ (r + (n + d)) / 2 ^ (r + d) ≡ bitsAt s (p + r) n
 bits-shift s p r n d =
-    let B : ℕ = bitsAt s (p + r) (n + d) in
-    ap (λ (x : ℕ). x % 2 ^ (r + (n + d)) / 2 ^ (r + d))
-    (ap (λ (x : ℕ). x * 2 ^ r) (bits-split s p r (n + d)) ∙ rw (add-mul, mul-assoc, ← pow-add, add-comm (n + d) r))
-    ∙ ap (λ (x : ℕ). x / 2 ^ (r + d)) (low (bitsAt s p r) (r + (n + d)) (rw (add-comm r (n + d)) (shl-lt (n + d) r (bits-lt s (p + r) (n + d)))))
-    ∙ sym (shr-shr (B * 2 ^ r) r d)
-    ∙ ap (λ (x : ℕ). x / 2 ^ d) (shl-shr B r)
+    ap (λ (x : ℕ). x / 2 ^ (r + d)) (shift-up s p r (n + d))
+    ∙ sym (shr-shr (bitsAt s (p + r) (n + d) * 2 ^ r) r d)
+    ∙ ap (λ (x : ℕ). x / 2 ^ d) (shl-shr (bitsAt s (p + r) (n + d)) r)
     ∙ bits-front s (p + r) n d
 
 -- the eight bits of a byte
@@ -98,6 +101,15 @@ pub bits-past : (s : List ℕ) (p n : ℕ) → 8 * length s ≤ p → bitsAt s p
 unfolding bitsAt
 bits-past s p zero h = refl
 bits-past s p (suc n) h = omega (arith, bits-past s p n h, bit-past s (p + n) (omega arith))
+
+-- the last bits shifted up: zeros follow them
+pub bits-late : (s : List ℕ) (p q r w : ℕ) → q ≡ p + r → r ≤ w → 8 * length s ≤ p + w → (bitsAt s p w * 2 ^ r) % 2 ^ w ≡ bitsAt s q w
+bits-late s p q r w e h g =
+    let n : ℕ = w - r in
+    let f : r + n ≡ w = omega arith in
+    rw (e, ← f)
+    (shift-up s p r n
+    ∙ sym (ap (λ (x : ℕ). bitsAt s (p + r) x) (add-comm r n) ∙ bits-split s (p + r) n r ∙ rw (bits-past s (p + r + n) r (omega arith), add-zero)))
 
 pub bits-one : (s : List ℕ) (p : ℕ) → bitsAt s p 1 ≡ bitAt s p
 unfolding bitsAt

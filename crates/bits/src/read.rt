@@ -54,10 +54,7 @@ impl Cursor {
     pub fn flag(self, s: &[u8]) -> ReadFlag
         ensures { λ r. ⌜ asFlag r ≡ flagAt (bitsOf (now (s .entry))) (self .at) ⌝ }
     {
-        match self.bits(s, 1) {
-            Read::Got(v, next) => ReadFlag::Got(v == 1, next),
-            Read::Refused(r) => ReadFlag::Refused(r),
-        }
+        flag_at(within(s), self.at)
     }
 
     // The next ue(v).
@@ -137,6 +134,19 @@ fn fixed_at(s: &[u8], at: usize, n: u32) -> Read
     }
     let w = long_window(s, at) >> 32;
     Read::Got((w >> (32 - n)) as u32, Cursor { at: at + size })
+}
+
+// The flag at a place. Its byte is enough.
+fn flag_at(s: &[u8], at: usize) -> ReadFlag
+    requires { ⌜ length (now s) ≤ reach ⌝ }
+    ensures { λ r. ⌜ asFlag r ≡ flagAt (bytesBits (now (s .entry))) at ⌝ }
+{
+    let i = at / 8;
+    if s.len() <= i {
+        return ReadFlag::Refused(refuse(RAN_OUT, 0, at));
+    }
+    let bit = s[i] >> (7 - at % 8);
+    ReadFlag::Got(bit % 2 == 1, Cursor { at: at + 1 })
 }
 
 // The ue(v) code at a place. Its zeros are counted at once, on a 32-bit window.

@@ -70,6 +70,22 @@ fn eight_or_zeros(s: &[u8], k: usize) -> u64
     g
 }
 
+// The 64 bits from byte k on, where the slice ends before they do: its last 64 bits, shifted up. Only a slice under 8 bytes goes a byte at a time.
+fn late(s: &[u8], k: usize) -> u64
+    requires { ⌜ (k < 2 ^ 62) × (length (now s) ≤ k + 7) ⌝ }
+    ensures { λ r. ⌜ r ≡ bitsAt (now (s .entry)) (8 * k) 64 ⌝ }
+{
+    let n = s.len();
+    if n < 8 {
+        return eight_or_zeros(s, k);
+    }
+    if n <= k {
+        return 0;
+    }
+    let from = n - 8;
+    eight(s, from) << (8 * (k - from))
+}
+
 // The 64 bits from byte k on, zeros past the end.
 fn gather(s: &[u8], k: usize) -> u64
     requires { ⌜ k < 2 ^ 62 ⌝ }
@@ -78,7 +94,7 @@ fn gather(s: &[u8], k: usize) -> u64
     if k + 7 < s.len() {
         eight(s, k)
     } else {
-        eight_or_zeros(s, k)
+        late(s, k)
     }
 }
 

@@ -8,8 +8,8 @@ add-if1 c = search needs
 eight-requires : tie.Need-eight-requires
 eight-requires c κs = search needs
 
-eight-or-zeros-requires : tie.Need-eight-or-zeros-requires
-eight-or-zeros-requires c κs = search needs
+late-requires : tie.Need-late-requires
+late-requires c κs = search needs
 
 returns : tie.Need-returns
 returns c = search needs
@@ -18,4 +18,4 @@ returns-2 : tie.Need-returns-2
 returns-2 c = search needs
 
 pub gather-spec : {M : Type 1} → statement M
-gather-spec = tie.close (tie.spec add-if1 eight-requires eight-or-zeros-requires returns returns-2)
+gather-spec = tie.close (tie.spec add-if1 eight-requires late-requires returns returns-2)
