@@ -1,4 +1,4 @@
-pub mod Columns
+pub mod Fronts
 pub mod Lent
 pub mod Prefixed
 pub mod Entries
