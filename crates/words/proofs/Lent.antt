@@ -93,10 +93,15 @@ pub fill-ended : {m : Res Operations} {o : Operations} {e : ℕ} (before : List 
 unfolding listStep Filled
 fill-ended before w h = rw (← h) (refl, w)
 
+-- no list has no words
+pub no-list : listWords noOperations ≡ []
+unfolding listWords ofOperations flatMap
+no-list = refl
+
 -- what is left in the words: what was there, a list that was read, zeros beside a refusal
 pub left-absent : {m : Res Operations} {at : ℕ} (words : List ℕ) → got noOperations at ≡ m → (ListStep.Got 0 (record { at = at }) ≡ listStep m) × (words ≡ listLeft m words)
-unfolding listStep leaves listWords ofOperations flatMap
-left-absent words h = rw (← h) (refl, refl)
+unfolding listStep leaves
+left-absent words h = rw (← h) (refl, rw no-list)
 
 pub left-read : (m : Res Operations) (before : List ℕ) {a : ListStep} {n : ℕ} {c : Cursor} {words : List ℕ} → a ≡ listStep m → a ≡ ListStep.Got n c → Filled m before words
     → words ≡ listLeft m before
