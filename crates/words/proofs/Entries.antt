@@ -1,4 +1,4 @@
--- A list's entries as words: an entry is written behind those before it, and the words of unused entries are zeros.
+-- A list's entries as words: an entry is written behind those before it.
 use Prim.Native.Nat.{ℕ, zero, suc, _+_, _*_, _<_}
 use mathlib.Core.Path.{_≡_, refl, ap, sym, _∙_}
 use mathlib.Core.List.{List, [], _∷_, _++_, flatMap, append-nil, append-assoc}
@@ -11,7 +11,7 @@ use lib.Seq.{sets, length-take-le, take-suc-set}
 use Rattle.syntax.specs.SliceHeader.{noWeight}
 use Rattle.syntax.specs.declared.record.Weight.{Weight}
 use Rattle.words.specs.WeightsLent.{flagWord, entryWords}
-use Rattle.words.proofs.Fronts.{sets-append}
+use Rattle.words.proofs.Fronts.{front-next}
 
 -- ---- runs of stores
 
@@ -31,31 +31,13 @@ module _ {A : Type 0} where
 -- ---- elements of n words each
 
 module _ {A B : Type 0} (f : A → List B) (n : ℕ) where
-  flat-snoc : (xs : List A) (a : A) → flatMap f (xs ++ (a ∷ [])) ≡ flatMap f xs ++ f a
-  unfolding flatMap
-  flat-snoc [] a = append-nil (f a)
-  flat-snoc (x ∷ xs) a = ap (λ (m : List B). f x ++ m) (flat-snoc xs a) ∙ sym (append-assoc (f x) (flatMap f xs) (f a))
-
-  flat-length : ((a : A) → length (f a) ≡ n) → (xs : List A) → length (flatMap f xs) ≡ n * length xs
-  unfolding flatMap
-  flat-length size [] = sym (mul-zero n)
-  flat-length size (x ∷ xs) = length-append (f x) (flatMap f xs) ∙ rw (size x, flat-length size xs, mul-suc) (add-comm n (n * length xs))
-
   -- the words of element i are written behind those of the elements before it
   pub flat-next : ((a : A) → length (f a) ≡ n) → (t : List B) (xs : List A) (i : ℕ) (a : A) → i < length xs
       → sets (sets t 0 (flatMap f (take i xs))) (n * i) (f a) ≡ sets t 0 (flatMap f (take (i + 1) (set xs i a)))
   flat-next size t xs i a h =
-      let e : 0 + length (flatMap f (take i xs)) ≡ n * i = zero-add _ ∙ flat-length size (take i xs) ∙ rw (length-take-le i xs (omega arith)) in
-      rw (add-one, take-suc-set xs i a h, flat-snoc, sets-append, e)
-
-  flat-replicate : (z : A) (b : B) → f z ≡ replicate n b → (k : ℕ) → flatMap f (replicate k z) ≡ replicate (n * k) b
-  unfolding flatMap
-  flat-replicate z b e zero = ap (λ (j : ℕ). replicate j b) (sym (mul-zero n))
-  flat-replicate z b e (suc k) =
-      ap (λ (m : List B). m ++ flatMap f (replicate k z)) e
-      ∙ ap (λ (m : List B). replicate n b ++ m) (flat-replicate z b e k)
-      ∙ replicate-append-replicate n (n * k) b
-      ∙ ap (λ (j : ℕ). replicate j b) (add-comm n (n * k) ∙ sym (mul-suc n k))
+      ap (λ (k : ℕ). sets (sets t 0 (flatMap f (take i xs))) (n * k) (f a)) (sym (length-take-le i xs (omega arith)))
+      ∙ front-next f n size t (take i xs) a
+      ∙ rw (add-one, take-suc-set xs i a h)
 
 -- ---- entries
 
@@ -65,6 +47,3 @@ rest w = w .«luma_weight» ∷ w .«luma_offset» ∷ flagWord (w .«chroma_wei
 
 pub entry-written : (t : List ℤ) (k : ℕ) (w : Weight) → storeFrom (set t k (flagWord (w .«luma_weight_flag»))) k 1 (rest w) ≡ sets t k (entryWords w)
 entry-written t k w = sym (stored t k (flagWord (w .«luma_weight_flag»)) (rest w))
-
-pub unused-words : flatMap entryWords (replicate 32 noWeight) ≡ replicate 256 (pos 0)
-unused-words = flat-replicate entryWords 8 noWeight (pos 0) refl 32

@@ -1,11 +1,32 @@
--- Lists written one after the other over the front of words.
-use Prim.Native.Nat.{ℕ, suc, _+_}
-use mathlib.Core.Path.{_≡_, ap, _∙_}
-use mathlib.Core.List.{List, [], _∷_, _++_}
+-- Words written over the front of a list, entry after entry.
+use Prim.Native.Nat.{ℕ, suc, _+_, _*_}
+use mathlib.Core.Path.{_≡_, ap, sym, _∙_}
+use mathlib.Core.List.{List, [], _∷_, _++_, flatMap, append-assoc, append-nil}
 use native.Mathlib.Omega.{arith}
-use lib.ListN.{length, set}
+use native.Mathlib.Nat.{mul-suc}
+use lib.ListN.{length, set, length-append}
 use lib.Seq.{sets}
 
-pub sets-append : {A : Type 0} (t : List A) (i : ℕ) (l m : List A) → sets t i (l ++ m) ≡ sets (sets t i l) (i + length l) m
-sets-append t i [] m = ap (λ (k : ℕ). sets t k m) (omega arith)
-sets-append t i (a ∷ l) m = sets-append (set t i a) (suc i) l m ∙ ap (λ (k : ℕ). sets (sets (set t i a) (suc i) l) k m) (omega arith)
+module _ {A : Type 0} where
+  pub sets-append : (t : List A) (i : ℕ) (l m : List A) → sets t i (l ++ m) ≡ sets (sets t i l) (i + length l) m
+  sets-append t i [] m = ap (λ (k : ℕ). sets t k m) (omega arith)
+  sets-append t i (a ∷ l) m = sets-append (set t i a) (suc i) l m ∙ ap (λ (k : ℕ). sets (sets (set t i a) (suc i) l) k m) (omega arith)
+
+-- entries of n words each
+module _ {A B : Type 0} (f : A → List B) (n : ℕ) where
+  length-flat : ((a : A) → length (f a) ≡ n) → (l : List A) → length (flatMap f l) ≡ n * length l
+  unfolding flatMap
+  length-flat size [] = omega arith
+  length-flat size (a ∷ l) = omega (arith, length-append (f a) (flatMap f l), size a, length-flat size l, mul-suc n (length l))
+
+  flat-snoc : (l : List A) (a : A) → flatMap f (l ++ (a ∷ [])) ≡ flatMap f l ++ f a
+  unfolding flatMap
+  flat-snoc [] a = append-nil (f a)
+  flat-snoc (x ∷ l) a = ap (λ (m : List B). f x ++ m) (flat-snoc l a) ∙ sym (append-assoc (f x) (flatMap f l) (f a))
+
+  -- one entry more, behind the others
+  pub front-next : ((a : A) → length (f a) ≡ n) → (t : List B) (l : List A) (a : A)
+      → sets (sets t 0 (flatMap f l)) (n * length l) (f a) ≡ sets t 0 (flatMap f (l ++ (a ∷ [])))
+  front-next size t l a =
+      let k : n * length l ≡ 0 + length (flatMap f l) = omega (arith, length-flat size l) in
+      rw (k, flat-snoc l a) (sym (sets-append t 0 (flatMap f l) (f a)))

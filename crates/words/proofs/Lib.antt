@@ -1,4 +1,3 @@
-pub mod Columns
 pub mod Fronts
 pub mod Lent
 pub mod Prefixed

@@ -21,8 +21,8 @@ use Rattle.syntax.specs.declared.record.Weight.{Weight}
 use Rattle.syntax.specs.declared.record.WeightList.{WeightList}
 use Rattle.syntax.specs.declared.record.PredWeightTable.{PredWeightTable}
 use Rattle.weights.specs.Counts.{noWeights, noTable}
-use Rattle.words.specs.Leaves.{leaves}
-use Rattle.words.specs.WeightsLent.{entryWords, weightWords, weightsLeft, weightsStep, Written, listStep, whyList}
+use Rattle.words.specs.Leaves.{leaves, Written}
+use Rattle.words.specs.WeightsLent.{entryWords, weightWords, weightsLeft, weightsStep, listStep, whyList}
 use Rattle.words.specs.declared.weight_words.WeightsShort.{WeightsShort}
 use Rattle.words.specs.declared.weight_words.WeightsStep.{WeightsStep}
 use Rattle.words.specs.declared.weight_words.ListStep.{ListStep}

@@ -1,9 +1,7 @@
 -- A list in lent words: what reading it answers, and what it leaves in them.
 use Prim.Native.Nat.{ℕ}
-use mathlib.Core.Path.{_≡_}
 use mathlib.Core.List.{List, [], _∷_, flatMap}
 use lib.ListN.{replicate}
-use lib.Seq.{sets}
 use Rattle.bits.specs.declared.refusals.Refusal.{Refusal}
 use Rattle.bits.specs.Refusals.{Res, got, no}
 use Rattle.bits.specs.Answers.{none}
@@ -29,11 +27,6 @@ listStep (no r) = ListStep.Refused r
 
 abbrev pub listLeft : Res Operations → List ℕ → List ℕ
 listLeft = leaves (replicate 198 0) listWords
-
--- the words hold a list that was read; after a refusal nothing is said of them
-unfoldable pub Filled : Res Operations → List ℕ → List ℕ → Type 0
-Filled (got o e) before words = words ≡ sets before 0 (listWords o)
-Filled (no r) before words = Unit {0}
 
 abbrev pub whyList : ListStep → Refusal
 whyList (ListStep.Got n c) = none

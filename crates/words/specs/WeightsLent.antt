@@ -1,10 +1,8 @@
 -- The table read into lent words: eight an entry, in the syntax's order, with flags as 0 and 1.
-use mathlib.Core.Path.{_≡_}
 use mathlib.Core.Bool.{Bool}
 use mathlib.Core.List.{List, [], _∷_, flatMap}
 use lib.IntN.{ℤ, pos}
 use lib.ListN.{take, replicate}
-use lib.Seq.{sets}
 use Rattle.bits.specs.Refusals.{Res, got, no, pick}
 use Rattle.bits.specs.Answers.{none}
 use Rattle.bits.specs.declared.refusals.Refusal.{Refusal}
@@ -51,11 +49,6 @@ whyWeights (WeightsStep.Got w c) = none
 whyWeights (WeightsStep.Refused r) = r
 
 -- ---- private contracts
-
--- what was read is written over the front of the words; after a refusal nothing is said of them
-unfoldable pub Written : {A : Type 0} → (A → List ℤ) → Res A → List ℤ → List ℤ → Type 0
-Written words (got a e) before after = after ≡ sets before 0 (words a)
-Written words (no r) before after = Unit {0}
 
 abbrev pub listStep : Res WeightList → ListStep
 listStep (got l e) = ListStep.Got (l .count) (record { at = e })

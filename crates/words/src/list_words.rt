@@ -21,7 +21,8 @@ ghost use Rattle.bits.specs.Bits.{bitsOf};
 ghost use Rattle.syntax.specs.Lists.{operations, operationsIf};
 ghost use Rattle.syntax.specs.Prefix.{baseMarkingKind, prefix};
 ghost use Rattle.lists.specs.Kinds.{kindOf};
-ghost use Rattle.words.specs.ListsLent.{listStep, listLeft, whyList, Filled, prefixStep, prefixLeft};
+ghost use Rattle.words.specs.Leaves.{Written};
+ghost use Rattle.words.specs.ListsLent.{listWords, listStep, listLeft, whyList, prefixStep, prefixLeft};
 
 // The count, and the place after the closing code; the list stands in the words.
 pub enum ListStep {
@@ -50,7 +51,7 @@ pub fn clear_list(words: &mut [u32; 198])
 // The loop of `operations`. After a refusal the words hold what was read before it.
 fn fill(s: &[u8], c: Cursor, kind: ListKind, words: &mut [u32; 198]) -> ListStep
     ensures { λ r. ⌜ r ≡ listStep (operations (kindOf kind) .read (bitsOf (now (s .entry))) (c .at)) ⌝ }
-    ensures { λ r. ⌜ Filled (operations (kindOf kind) .read (bitsOf (now (s .entry))) (c .at)) (now (words .entry)) (now (words .exit)) ⌝ }
+    ensures { λ r. ⌜ Written listWords (operations (kindOf kind) .read (bitsOf (now (s .entry))) (c .at)) (now (words .entry)) (now (words .exit)) ⌝ }
 {
     let mut count: u32 = 0;
     let mut at = c;

@@ -26,7 +26,8 @@ ghost use lib.Seq.{sets};
 ghost use Rattle.bits.specs.Bits.{bitsOf};
 ghost use Rattle.syntax.specs.SliceHeader.{weightList, predWeightTable};
 ghost use Rattle.weights.specs.Counts.{atMost32};
-ghost use Rattle.words.specs.WeightsLent.{flagWord, entryWords, weightWords, weightsLeft, weightsStep, whyWeights, Written, listStep, whyList};
+ghost use Rattle.words.specs.Leaves.{Written};
+ghost use Rattle.words.specs.WeightsLent.{flagWord, entryWords, weightWords, weightsLeft, weightsStep, whyWeights, listStep, whyList};
 
 // The table without its entries: l0 and l1 are their counts. An entry is eight words, in the syntax's order, with flags as 0 and 1.
 #[repr(C)]

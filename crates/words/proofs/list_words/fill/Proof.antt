@@ -7,13 +7,13 @@ use Rattle.words.proofs.list_words.fill.Statement.{statement}
 use Rattle.words.proofs.list_words.fill.Tie as tie
 
 abbrev Inv-loop : tie.InvT-loop
-Inv-loop s kind words₀ count₀ at₀ words count at = Held kind (bitsOf s) (at₀ .at) words count (at .at)
+Inv-loop s kind words₀ count₀ at₀ words count at = Held kind (bitsOf s) (at₀ .at) words₀ words count (at .at)
 
 abbrev μ-loop : tie.MeasureT-loop
 μ-loop s kind words₀ count₀ at₀ words count at = 67 - count
 
 loop-holds : tie.Need-loop-holds Inv-loop μ-loop
-loop-holds c = held-none (c .before .args .kind) (bitsOf (c .before .args .s .now)) (c .before .args .c .at) (c .before .pre)
+loop-holds c = let g = c .before .args in held-none (g .kind) (bitsOf (g .s .now)) (g .c .at) (g .words .now)
 
 tested-requires : tie.Need-tested-requires Inv-loop μ-loop
 tested-requires c κs = search needs
@@ -32,7 +32,7 @@ returns c =
     let g = c .before .before .before .before .before .before .args in
     let a = c .before .before .before .before .loop .inv .reading in
     let t = c .before .before .before .tested in
-    fill-refused _ (no-code (g .kind) (bitsOf (g .s .now)) (g .c .at) a (t .result) (t .ensures) _ _ (c .before .enum-told .given .1) (c .why .ensures))
+    fill-refused _ _ (no-code (g .kind) (bitsOf (g .s .now)) (g .c .at) a (t .result) (t .ensures) _ _ (c .before .enum-told .given .1) (c .why .ensures))
 
 refuse-requires : tie.Need-refuse-requires Inv-loop μ-loop
 refuse-requires c κs = search needs
@@ -44,7 +44,7 @@ returns-2 c =
     let t = c .before .before .before .before .before .before .before .tested in
     let v = c .before .before .before .before .before .a .given in
     let z = c .before .before .if1 .left in
-    fill-refused _ (too-many (g .kind) (bitsOf (g .s .now)) (g .c .at) a (t .result) (t .ensures) (v .0 .0) (v .0 .1 .0) (v .1) z (c .before .if2 .taken) _ (c .refuse .ensures))
+    fill-refused _ _ (too-many (g .kind) (bitsOf (g .s .now)) (g .c .at) a (t .result) (t .ensures) (v .0 .0) (v .0 .1 .0) (v .1) z (c .before .if2 .taken) _ (c .refuse .ensures))
 
 has-first-requires : tie.Need-has-first-requires Inv-loop μ-loop
 has-first-requires c κs = search needs
@@ -71,7 +71,7 @@ returns-3 c =
     let m = c .before .before .before .before .before .if2 .left in
     let f = c .before .before .before .before .has-first in
     let x = c .before .before .before .given in
-    fill-refused _ (no-first (g .kind) (bitsOf (g .s .now)) (g .c .at) a (t .result) (t .ensures) (v .0 .0) (v .0 .1 .0) (v .1) z m (f .result) (f .ensures) (x .result) (x .ensures) _ _ (c .before .enum-told2 .given .1) (c .why2 .ensures))
+    fill-refused _ _ (no-first (g .kind) (bitsOf (g .s .now)) (g .c .at) a (t .result) (t .ensures) (v .0 .0) (v .0 .1 .0) (v .1) z m (f .result) (f .ensures) (x .result) (x .ensures) _ _ (c .before .enum-told2 .given .1) (c .why2 .ensures))
 
 has-second-requires : tie.Need-has-second-requires Inv-loop μ-loop
 has-second-requires c κs = search needs
@@ -101,11 +101,14 @@ returns-4 c =
     let u = c .before .before .before .before .before .before .b .given in
     let h = c .before .before .before .before .has-second in
     let y = c .before .before .before .given2 in
-    fill-refused _ (no-second (g .kind) (bitsOf (g .s .now)) (g .c .at) a (t .result) (t .ensures) (v .0 .0) (v .0 .1 .0) (v .1) z m (f .result) (f .ensures) (x .result) (x .ensures) (u .0 .0) (u .0 .1 .0) (u .1) (h .result) (h .ensures) (y .result) (y .ensures) _ _
+    fill-refused _ _ (no-second (g .kind) (bitsOf (g .s .now)) (g .c .at) a (t .result) (t .ensures) (v .0 .0) (v .0 .1 .0) (v .1) z m (f .result) (f .ensures) (x .result) (x .ensures) (u .0 .0) (u .0 .1 .0) (u .1) (h .result) (h .ensures) (y .result) (y .ensures) _ _
     (c .before .enum-told3 .given .1) (c .why3 .ensures))
 
-cast-i : tie.Need-cast-i Inv-loop μ-loop
-cast-i c = search needs
+cast-k : tie.Need-cast-k Inv-loop μ-loop
+cast-k c = search needs
+
+mul-k : tie.Need-mul-k Inv-loop μ-loop
+mul-k c = search needs
 
 mul-words : tie.Need-mul-words Inv-loop μ-loop
 mul-words c = search needs
@@ -151,7 +154,7 @@ loop-again c =
     let h = c .before .before .before .before .has-second in
     let y = c .before .before .before .given2 in
     let w = c .before .d .given in
-    held-more (g .kind) (bitsOf (g .s .now)) (g .c .at) l m (v .0 .0) (u .0 .0) (w .0 .0) (w .0 .1 .0 .at)
+    held-more (g .kind) (bitsOf (g .s .now)) (g .c .at) (g .words .now) l m (v .0 .0) (u .0 .0) (w .0 .0) (w .0 .1 .0 .at)
     (turned (g .kind) (bitsOf (g .s .now)) (g .c .at) (l .reading) (t .result) (t .ensures) (v .0 .0) (v .0 .1 .0) (v .1) z m (f .result) (f .ensures) (x .result) (x .ensures) (u .0 .0) (u .0 .1 .0) (u .1) (h .result) (h .ensures) (y .result) (y .ensures) (w .0 .0) (w .0 .1 .0) (w .1))
 
 returns-5 : tie.Need-returns-5 Inv-loop μ-loop
@@ -160,7 +163,7 @@ returns-5 c =
     let l = c .before .before .before .before .before .before .loop .inv in
     let t = c .before .before .before .before .before .tested in
     let v = c .before .before .before .a .given in
-    fill-ended (l .columns) (ended (g .kind) (bitsOf (g .s .now)) (g .c .at) (l .reading) (t .result) (t .ensures) (v .0 .0) (v .0 .1 .0) (v .1) (c .if1 .taken))
+    fill-ended _ (l .front) (ended (g .kind) (bitsOf (g .s .now)) (g .c .at) (l .reading) (t .result) (t .ensures) (v .0 .0) (v .0 .1 .0) (v .1) (c .if1 .taken))
 
 pub fill-spec : {M : Type 1} → statement M
 fill-spec =
@@ -188,7 +191,8 @@ fill-spec =
     enum-told-3
     why-requires-3
     returns-4
-    cast-i
+    cast-k
+    mul-k
     mul-words
     element-write-words
     add-words
