@@ -22,8 +22,8 @@ use Rattle.header.specs.declared.stages.FrontParts.{FrontParts}
 use Rattle.header.specs.declared.stages.MarkingFlags.{MarkingFlags}
 use Rattle.header.specs.declared.stages.BackParts.{BackParts}
 use Rattle.header.specs.Lead.{ledOf}
-use Rattle.header.specs.Stages.{frontAt, firstFlagAt, markingFlagsAt, backAt}
-use Rattle.header.proofs.Split.{contextOf, modificationsOf, markingOf, headerOf, header-split}
+use Rattle.header.specs.Stages.{contextOf, headerOf, frontAt, firstFlagAt, markingFlagsAt, backAt}
+use Rattle.header.proofs.Split.{modificationsOf, markingOf, header-split}
 use Rattle.header.proofs.Counts.{weights-same}
 
 module _ (t : Table) (n : UnitKind) (s : Bits) where

@@ -28,8 +28,7 @@ use Rattle.weights.proofs.Filled.{at-most-32}
 use Rattle.header.specs.declared.lead.Led.{Led}
 use Rattle.header.specs.declared.stages.FrontParts.{FrontParts}
 use Rattle.header.specs.Lead.{ledOf}
-use Rattle.header.specs.Stages.{frontAt}
-use Rattle.header.proofs.Split.{contextOf}
+use Rattle.header.specs.Stages.{contextOf, frontAt}
 
 few-same : (n : ℕ) → n ≤ 32 → atMost32 n ≡ n
 unfolding atMost32
@@ -89,10 +88,16 @@ module _ (n : UnitKind) (l : Led) (a : ActiveCounts) (p : Few (l .picture)) (o :
 -- so the weights that the code reads are the header's
 module _ (t : Table) (n : UnitKind) (s : Bits) (at : ℕ) {l : Led} {c : ℕ} (hl : bind (lead t .read s at) (λ v e. got (ledOf t v) e) ≡ got l c)
     {f : FrontParts} {d : ℕ} (hf : frontAt (contextOf n l) (l .«slice_type») s c ≡ got f d) where
+  -- as the code has them, and as the header has them
+  pub counts-same : (atMost32 (activeL0 (contextOf n l) (f .«active_counts»)) ≡ activeL0 (contextOf n l) (f .«active_counts»))
+      × (atMost32 (activeL1 (contextOf n l) (f .«active_counts»)) ≡ activeL1 (contextOf n l) (f .«active_counts»))
+  counts-same =
+      let p = led-few t s at hl in
+      let o = front-few (contextOf n l) (l .«slice_type») s c hf in
+      (l0-same n l (f .«active_counts») p o, l1-same n l (f .«active_counts») p o)
+
   pub weights-same : (e : ℕ)
       → predWeightTable (contextOf n l) (l .«slice_type») (activeL0 (contextOf n l) (f .«active_counts»)) (activeL1 (contextOf n l) (f .«active_counts»)) .read s e
       ≡ predWeightTable (contextOf n l) (l .«slice_type») (atMost32 (activeL0 (contextOf n l) (f .«active_counts»))) (atMost32 (activeL1 (contextOf n l) (f .«active_counts»))) .read s e
   weights-same e =
-      let p = led-few t s at hl in
-      let o = front-few (contextOf n l) (l .«slice_type») s c hf in
-      ap₂ (λ (i j : ℕ). predWeightTable (contextOf n l) (l .«slice_type») i j .read s e) (sym (l0-same n l (f .«active_counts») p o)) (sym (l1-same n l (f .«active_counts») p o))
+      ap₂ (λ (i j : ℕ). predWeightTable (contextOf n l) (l .«slice_type») i j .read s e) (sym (counts-same .0)) (sym (counts-same .1))

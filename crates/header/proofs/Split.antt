@@ -25,7 +25,7 @@ use Rattle.header.specs.declared.stages.FrontParts.{FrontParts}
 use Rattle.header.specs.declared.stages.MarkingFlags.{MarkingFlags}
 use Rattle.header.specs.declared.stages.BackParts.{BackParts}
 use Rattle.header.specs.Lead.{ledOf}
-use Rattle.header.specs.Stages.{frontAt, firstFlagAt, markingFlagsAt, backAt}
+use Rattle.header.specs.Stages.{contextOf, headerOf, frontAt, firstFlagAt, markingFlagsAt, backAt}
 
 abbrev pub modificationsOf : MarkedFlag → Operations → MarkedFlag → Operations → Modifications
 modificationsOf g o h p = record { l0 = record { flag = g; operations = o }; l1 = record { flag = h; operations = p } }
@@ -68,26 +68,6 @@ module _ (x : Context) (k : ℕ) (s : Bits) (at : ℕ) where
       got (partsOf f m w r b) h)))))
   unfolding parts seq frontAt backAt
   parts-split = simp bind-bind
-
-abbrev pub contextOf : UnitKind → Led → Context
-contextOf n l = record { kind = n; picture = l .picture; sequence = l .sequence }
-
-abbrev pub headerOf : Led → FrontParts → Modifications → PredWeightTable → DecRefPicMarking → BackParts → SliceHeader
-headerOf l f m w d b =
-    record {
-      «first_mb_in_slice» = l .«first_mb_in_slice»;
-      «slice_type» = l .«slice_type»;
-      «pic_parameter_set_id» = l .«pic_parameter_set_id»;
-      «seq_parameter_set_id» = l .picture .«seq_parameter_set_id»;
-      frame = f .frame;
-      «order_count» = f .«order_count»;
-      «active_counts» = f .«active_counts»;
-      modifications = m;
-      «pred_weight_table» = w;
-      «dec_ref_pic_marking» = d;
-      quantiser = b .quantiser;
-      filter = b .filter;
-    }
 
 module _ (n : UnitKind) (s : Bits) where
   -- what follows the first fields

@@ -6,11 +6,17 @@ use Rattle.bits.specs.Refusals.{Res, got, no, bind}
 use Rattle.bits.specs.Answers.{none}
 use Rattle.bits.specs.Bits.{Bits}
 use Rattle.bits.specs.declared.refusals.Refusal.{Refusal}
+use Rattle.syntax.specs.declared.context.UnitKind.{UnitKind}
 use Rattle.syntax.specs.declared.context.Context.{Context}
 use Rattle.syntax.specs.declared.marks.MarkedFlag.{MarkedFlag}
+use Rattle.syntax.specs.declared.record.Modifications.{Modifications}
+use Rattle.syntax.specs.declared.record.PredWeightTable.{PredWeightTable}
+use Rattle.syntax.specs.declared.record.DecRefPicMarking.{DecRefPicMarking}
+use Rattle.syntax.specs.declared.record.SliceHeader.{SliceHeader}
 use Rattle.syntax.specs.Marks.{flagIf}
 use Rattle.syntax.specs.Context.{hasL0}
 use Rattle.syntax.specs.SliceHeader.{frame, orderCount, activeCounts, notScalable, quantiser, filter}
+use Rattle.header.specs.declared.lead.Led.{Led}
 use Rattle.header.specs.declared.stages.FrontParts.{FrontParts}
 use Rattle.header.specs.declared.stages.FrontStep.{FrontStep}
 use Rattle.header.specs.declared.stages.MarkingFlags.{MarkingFlags}
@@ -43,6 +49,27 @@ markingFlagsAt x s at =
     bind (flagIf (x .kind .reference && x .kind .idr) .read s c) (λ l d.
     bind (flagIf (x .kind .reference && not (x .kind .idr)) .read s d) (λ a e.
     got (record { «no_output_of_prior_pics_flag» = n; «long_term_reference_flag» = l; «adaptive_ref_pic_marking_mode_flag» = a }) e)))
+
+-- the header's context, and its record of its parts
+abbrev pub contextOf : UnitKind → Led → Context
+contextOf n l = record { kind = n; picture = l .picture; sequence = l .sequence }
+
+abbrev pub headerOf : Led → FrontParts → Modifications → PredWeightTable → DecRefPicMarking → BackParts → SliceHeader
+headerOf l f m w d b =
+    record {
+      «first_mb_in_slice» = l .«first_mb_in_slice»;
+      «slice_type» = l .«slice_type»;
+      «pic_parameter_set_id» = l .«pic_parameter_set_id»;
+      «seq_parameter_set_id» = l .picture .«seq_parameter_set_id»;
+      frame = f .frame;
+      «order_count» = f .«order_count»;
+      «active_counts» = f .«active_counts»;
+      modifications = m;
+      «pred_weight_table» = w;
+      «dec_ref_pic_marking» = d;
+      quantiser = b .quantiser;
+      filter = b .filter;
+    }
 
 abbrev pub asFront : FrontStep → Res FrontParts
 asFront (FrontStep.Got f c) = got f (c .at)

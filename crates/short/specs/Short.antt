@@ -8,6 +8,9 @@ use lib.Seq.{sets}
 use Rattle.bits.specs.Refusals.{Res, got, no}
 use Rattle.syntax.specs.declared.marks.MarkedFlag.{MarkedFlag}
 use Rattle.syntax.specs.declared.marks.MarkedNumber.{MarkedNumber}
+use Rattle.syntax.specs.declared.record.OrderCount.{OrderCount}
+use Rattle.syntax.specs.declared.record.Quantiser.{Quantiser}
+use Rattle.syntax.specs.declared.record.Filter.{Filter}
 use Rattle.syntax.specs.declared.record.SliceHeader.{SliceHeader}
 use Rattle.codes.specs.declared.step.End.{End}
 use Rattle.words.specs.ListsLent.{listWords}
@@ -83,16 +86,19 @@ numbersOf h =
     ++ ((bit (h .filter .«slice_alpha_c0_offset_div2» .there) ∷ bit (h .filter .«slice_beta_offset_div2» .there) ∷ [])
     ++ numberWords (h .filter .«slice_group_change_cycle»))))))))))))))))))))))))))))
 
-unfoldable pub signedOf : HeaderShort → List ℤ
-signedOf h =
-    h .«order_count» .«delta_pic_order_cnt_bottom» .value
-    ∷ h .«order_count» .«delta_pic_order_cnt» .first
-    ∷ h .«order_count» .«delta_pic_order_cnt» .second
-    ∷ h .quantiser .«slice_qp_delta»
-    ∷ h .quantiser .«slice_qs_delta» .value
-    ∷ h .filter .«slice_alpha_c0_offset_div2» .value
-    ∷ h .filter .«slice_beta_offset_div2» .value
+abbrev pub signedWords : OrderCount → Quantiser → Filter → List ℤ
+signedWords o q f =
+    o .«delta_pic_order_cnt_bottom» .value
+    ∷ o .«delta_pic_order_cnt» .first
+    ∷ o .«delta_pic_order_cnt» .second
+    ∷ q .«slice_qp_delta»
+    ∷ q .«slice_qs_delta» .value
+    ∷ f .«slice_alpha_c0_offset_div2» .value
+    ∷ f .«slice_beta_offset_div2» .value
     ∷ []
+
+unfoldable pub signedOf : HeaderShort → List ℤ
+signedOf h = signedWords (h .«order_count») (h .quantiser) (h .filter)
 
 -- ---- what reading says, and what it leaves in the words
 

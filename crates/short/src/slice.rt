@@ -12,9 +12,11 @@ use codes::step::FlagStep;
 use codes::step::why_flag;
 use header::follows::any_set_after;
 use header::lead::LeadStep;
+use header::lead::Led;
 use header::lead::lead;
 use header::lead::why_lead;
 use header::stages::BackStep;
+use header::stages::FrontParts;
 use header::stages::FrontStep;
 use header::stages::MarkingFlags;
 use header::stages::MarkingStep;
@@ -51,8 +53,8 @@ ghost use Rattle.syntax.specs.SliceHeader.{readHeader, modifications, predWeigh
 ghost use Rattle.weights.specs.Counts.{atMost32};
 ghost use Rattle.header.specs.Lead.{tableOf};
 ghost use Rattle.words.specs.WeightsLent.{weightsStep, weightsLeft};
-ghost use Rattle.short.specs.Short.{numbersOf, signedOf, HeaderWords, zeros, headerEnd, headerLeft};
-ghost use Rattle.short.specs.Told.{ListsTold, MarksTold, Filled, whyLists, whyMarks};
+ghost use Rattle.short.specs.Short.{numbersOf, signedWords, signedOf, HeaderWords, zeros, headerEnd, headerLeft};
+ghost use Rattle.short.specs.Told.{ListsTold, MarksTold, Filled, behind, whyLists, whyMarks};
 
 // The header's record without its lists. Of each list it has the count: how many entries of the lent words are used.
 #[repr(C)]
@@ -203,86 +205,25 @@ fn weights_for_into(
     weights_into(s, c, x, slice_type, n0, n1, w0, w1)
 }
 
-fn fill<'a>(
-    s: &'a [u8],
-    kind: UnitKind,
-    sequences: &'a [u32; 224],
-    pictures: &'a [u32; 2048],
-    numbers: &mut [u32; 57],
-    signed: &mut [i32; 7],
-    l0: &mut [u32; 198],
-    l1: &mut [u32; 198],
-    marking: &mut [u32; 198],
-    w0: &mut [i32; 256],
-    w1: &mut [i32; 256],
-) -> End
-    ensures { λ r. ⌜ Filled (readHeader (tableOf (now (sequences .entry)) (now (pictures .entry))) kind (bitsOf (now (s .entry)))) r (record { numbers = now (numbers .entry); signed = now (signed .entry); l0 = now (l0 .entry); l1 = now (l1 .entry); marking = now (marking .entry); w0 = now (w0 .entry); w1 = now (w1 .entry) }) (record { numbers = now (numbers .exit); signed = now (signed .exit); l0 = now (l0 .exit); l1 = now (l1 .exit); marking = now (marking .exit); w0 = now (w0 .exit); w1 = now (w1 .exit) }) ⌝ }
+fn lay_signed(o: OrderCount, q: Quantiser, f: Filter, signed: &mut [i32; 7])
+    ensures { λ _. ⌜ now (signed .exit) ≡ signedWords o q f ⌝ }
 {
-    let a1 = lead(s, Cursor { at: 0 }, sequences, pictures);
-    let LeadStep::Got(l, c1) = a1 else {
-        return End::Refused(why_lead(a1));
-    };
-    let picture = l.picture;
-    let sequence = l.sequence;
-    let x = Context {
-        kind,
-        picture,
-        sequence,
-    };
-    let a2 = front(s, c1, x, l.slice_type);
-    let FrontStep::Got(f, c2) = a2 else {
-        return End::Refused(why_front(a2));
-    };
-    let a3 = lists_into(s, c2, x, l.slice_type, l0, l1);
-    let ListsStep::Got(o, c3) = a3 else {
-        return End::Refused(why_lists(a3));
-    };
-    let active_counts = f.active_counts;
-    let a4 = weights_for_into(s, c3, x, l.slice_type, active_counts, w0, w1);
-    let WeightsStep::Got(weights, c4) = a4 else {
-        return End::Refused(why_weights(a4));
-    };
-    let a5 = marks_into(s, c4, x, marking);
-    let MarksStep::Got(m, c5) = a5 else {
-        return End::Refused(why_marks(a5));
-    };
-    let a6 = back(s, c5, x, l.slice_type);
-    let BackStep::Got(b, c6) = a6 else {
-        return End::Refused(why_back(a6));
-    };
-    if !any_set_after(s, c6.at) {
-        return End::Refused(refuse(NOTHING_FOLLOWS, 0, c6.at));
-    }
-    let frame = f.frame;
-    let order_count = f.order_count;
-    let flag0 = o.flag0;
-    let flag1 = o.flag1;
-    let flags = m.flags;
-    let no_output = flags.no_output_of_prior_pics_flag;
-    let long_term = flags.long_term_reference_flag;
-    let adaptive = flags.adaptive_ref_pic_marking_mode_flag;
-    let quantiser = b.quantiser;
-    let filter = b.filter;
-    let h = HeaderShort {
-        first_mb_in_slice: l.first_mb_in_slice,
-        slice_type: l.slice_type,
-        pic_parameter_set_id: l.pic_parameter_set_id,
-        seq_parameter_set_id: picture.seq_parameter_set_id,
-        frame,
-        order_count,
-        active_counts,
-        ref_pic_list_modification_flag_l0: flag0,
-        modifications_l0: o.count0,
-        ref_pic_list_modification_flag_l1: flag1,
-        modifications_l1: o.count1,
-        weights,
-        no_output_of_prior_pics_flag: no_output,
-        long_term_reference_flag: long_term,
-        adaptive_ref_pic_marking_mode_flag: adaptive,
-        markings: m.count,
-        quantiser,
-        filter,
-    };
+    *signed = [
+        o.delta_pic_order_cnt_bottom.value,
+        o.delta_pic_order_cnt.first,
+        o.delta_pic_order_cnt.second,
+        q.slice_qp_delta,
+        q.slice_qs_delta.value,
+        f.slice_alpha_c0_offset_div2.value,
+        f.slice_beta_offset_div2.value,
+    ];
+}
+
+// The fields as words, each where the syntax has it. A field that may be absent is its mark and its value; the value of a signed one stands in `signed`.
+fn lay(h: HeaderShort, numbers: &mut [u32; 57], signed: &mut [i32; 7])
+    ensures { λ _. ⌜ now (numbers .exit) ≡ numbersOf h ⌝ }
+    ensures { λ _. ⌜ now (signed .exit) ≡ signedOf h ⌝ }
+{
     *numbers = [
         h.first_mb_in_slice,
         h.slice_type,
@@ -342,16 +283,122 @@ fn fill<'a>(
         h.filter.slice_group_change_cycle.there as u32,
         h.filter.slice_group_change_cycle.value,
     ];
-    *signed = [
-        h.order_count.delta_pic_order_cnt_bottom.value,
-        h.order_count.delta_pic_order_cnt.first,
-        h.order_count.delta_pic_order_cnt.second,
-        h.quantiser.slice_qp_delta,
-        h.quantiser.slice_qs_delta.value,
-        h.filter.slice_alpha_c0_offset_div2.value,
-        h.filter.slice_beta_offset_div2.value,
-    ];
+    let order_count = h.order_count;
+    let quantiser = h.quantiser;
+    let filter = h.filter;
+    lay_signed(order_count, quantiser, filter, signed);
+}
+
+// What follows num_ref_idx_l1_active_minus1. A function of its own, so that no stage stands behind many tests: the compiler takes what does for rare, and neither
+// inlines it nor keeps its values in registers.
+fn behind(
+    s: &[u8],
+    c: Cursor,
+    kind: UnitKind,
+    l: Led,
+    f: FrontParts,
+    numbers: &mut [u32; 57],
+    signed: &mut [i32; 7],
+    l0: &mut [u32; 198],
+    l1: &mut [u32; 198],
+    marking: &mut [u32; 198],
+    w0: &mut [i32; 256],
+    w1: &mut [i32; 256],
+) -> End
+    ensures { λ r. ⌜ Filled (behind kind l f (bitsOf (now (s .entry))) (c .at)) r (record { numbers = now (numbers .entry); signed = now (signed .entry); l0 = now (l0 .entry); l1 = now (l1 .entry); marking = now (marking .entry); w0 = now (w0 .entry); w1 = now (w1 .entry) }) (record { numbers = now (numbers .exit); signed = now (signed .exit); l0 = now (l0 .exit); l1 = now (l1 .exit); marking = now (marking .exit); w0 = now (w0 .exit); w1 = now (w1 .exit) }) ⌝ }
+{
+    let picture = l.picture;
+    let sequence = l.sequence;
+    let x = Context {
+        kind,
+        picture,
+        sequence,
+    };
+    let a3 = lists_into(s, c, x, l.slice_type, l0, l1);
+    let ListsStep::Got(o, c3) = a3 else {
+        return End::Refused(why_lists(a3));
+    };
+    let active_counts = f.active_counts;
+    let a4 = weights_for_into(s, c3, x, l.slice_type, active_counts, w0, w1);
+    let WeightsStep::Got(weights, c4) = a4 else {
+        return End::Refused(why_weights(a4));
+    };
+    let a5 = marks_into(s, c4, x, marking);
+    let MarksStep::Got(m, c5) = a5 else {
+        return End::Refused(why_marks(a5));
+    };
+    let a6 = back(s, c5, x, l.slice_type);
+    let BackStep::Got(b, c6) = a6 else {
+        return End::Refused(why_back(a6));
+    };
+    if !any_set_after(s, c6.at) {
+        return End::Refused(refuse(NOTHING_FOLLOWS, 0, c6.at));
+    }
+    let frame = f.frame;
+    let order_count = f.order_count;
+    let flag0 = o.flag0;
+    let flag1 = o.flag1;
+    let flags = m.flags;
+    let no_output = flags.no_output_of_prior_pics_flag;
+    let long_term = flags.long_term_reference_flag;
+    let adaptive = flags.adaptive_ref_pic_marking_mode_flag;
+    let quantiser = b.quantiser;
+    let filter = b.filter;
+    let h = HeaderShort {
+        first_mb_in_slice: l.first_mb_in_slice,
+        slice_type: l.slice_type,
+        pic_parameter_set_id: l.pic_parameter_set_id,
+        seq_parameter_set_id: picture.seq_parameter_set_id,
+        frame,
+        order_count,
+        active_counts,
+        ref_pic_list_modification_flag_l0: flag0,
+        modifications_l0: o.count0,
+        ref_pic_list_modification_flag_l1: flag1,
+        modifications_l1: o.count1,
+        weights,
+        no_output_of_prior_pics_flag: no_output,
+        long_term_reference_flag: long_term,
+        adaptive_ref_pic_marking_mode_flag: adaptive,
+        markings: m.count,
+        quantiser,
+        filter,
+    };
+    lay(h, numbers, signed);
     End::At(c6)
+}
+
+fn fill<'a>(
+    s: &'a [u8],
+    kind: UnitKind,
+    sequences: &'a [u32; 224],
+    pictures: &'a [u32; 2048],
+    numbers: &mut [u32; 57],
+    signed: &mut [i32; 7],
+    l0: &mut [u32; 198],
+    l1: &mut [u32; 198],
+    marking: &mut [u32; 198],
+    w0: &mut [i32; 256],
+    w1: &mut [i32; 256],
+) -> End
+    ensures { λ r. ⌜ Filled (readHeader (tableOf (now (sequences .entry)) (now (pictures .entry))) kind (bitsOf (now (s .entry)))) r (record { numbers = now (numbers .entry); signed = now (signed .entry); l0 = now (l0 .entry); l1 = now (l1 .entry); marking = now (marking .entry); w0 = now (w0 .entry); w1 = now (w1 .entry) }) (record { numbers = now (numbers .exit); signed = now (signed .exit); l0 = now (l0 .exit); l1 = now (l1 .exit); marking = now (marking .exit); w0 = now (w0 .exit); w1 = now (w1 .exit) }) ⌝ }
+{
+    let a1 = lead(s, Cursor { at: 0 }, sequences, pictures);
+    let LeadStep::Got(l, c1) = a1 else {
+        return End::Refused(why_lead(a1));
+    };
+    let picture = l.picture;
+    let sequence = l.sequence;
+    let x = Context {
+        kind,
+        picture,
+        sequence,
+    };
+    let a2 = front(s, c1, x, l.slice_type);
+    let FrontStep::Got(f, c2) = a2 else {
+        return End::Refused(why_front(a2));
+    };
+    behind(s, c2, kind, l, f, numbers, signed, l0, l1, marking, w0, w1)
 }
 
 // All words of a header.

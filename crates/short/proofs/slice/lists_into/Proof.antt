@@ -3,7 +3,8 @@ use mathlib.Core.Path.{sym, ap, _∙_}
 use Rattle.codes.specs.Steps.{asFlag}
 use Rattle.short.specs.declared.slice.Lists.{Lists}
 use Rattle.short.specs.declared.slice.ListsStep.{ListsStep}
-use Rattle.short.proofs.Told.{list-got, list-refused, told-lists-no, told-lists}
+use Rattle.words.proofs.Lent.{list-read, list-refused}
+use Rattle.short.proofs.Told.{told-lists-no, told-lists}
 use Rattle.short.proofs.Lists.{first-no, l0-no, second-no, l1-no, both-read, lists-same}
 use Rattle.short.proofs.slice.lists_into.Statement.{statement}
 use Rattle.short.proofs.slice.lists_into.Tie as tie
@@ -23,7 +24,7 @@ why-flag-requires c κs = search needs
 returns : tie.Need-returns
 returns c =
     let hg = sym (c .before .before .before .first-flag .ensures) ∙ ap asFlag (c .before .enum-told .given .1) in
-    told-lists-no _ _ (first-no _ _ _ _ hg) (rw (c .why-flag .ensures, c .before .enum-told .given .1))
+    told-lists-no _ _ _ _ (first-no _ _ _ _ hg) (rw (c .why-flag .ensures, c .before .enum-told .given .1))
 
 modification-kind-requires : tie.Need-modification-kind-requires
 modification-kind-requires c κs = search needs
@@ -44,7 +45,7 @@ returns-2 : tie.Need-returns-2
 returns-2 c =
     let hg = sym (c .before .before .before .before .before .before .before .before .before .first-flag .ensures) ∙ ap asFlag (c .before .before .before .before .before .before .before .a1 .given .1) in
     let ho = list-refused _ (rw (c .before .before .before .before .before .modification-kind .ensures) at (c .before .before .before .operations-into .ensures .0)) (c .before .enum-told2 .given .1) in
-    told-lists-no _ _ (l0-no _ _ _ _ hg ho) (rw (c .why-list .ensures, c .before .enum-told2 .given .1))
+    told-lists-no _ _ _ _ (l0-no _ _ _ _ hg ho) (rw (c .why-list .ensures, c .before .enum-told2 .given .1))
 
 is-type-requires : tie.Need-is-type-requires
 is-type-requires c κs = search needs
@@ -64,9 +65,9 @@ why-flag-requires-2 c κs = search needs
 returns-3 : tie.Need-returns-3
 returns-3 c =
     let hg = sym (c .before .before .before .before .before .before .before .before .before .before .before .before .before .before .first-flag .ensures) ∙ ap asFlag (c .before .before .before .before .before .before .before .before .before .before .before .before .a1 .given .1) in
-    let lo = list-got _ (rw (c .before .before .before .before .before .before .before .before .before .before .modification-kind .ensures) at (c .before .before .before .before .before .before .before .before .operations-into .ensures .0)) (rw (c .before .before .before .before .before .before .before .before .before .before .modification-kind .ensures) at (c .before .before .before .before .before .before .before .before .operations-into .ensures .1)) (c .before .before .before .before .before .before .a2 .given .1) in
+    let lo = list-read _ (rw (c .before .before .before .before .before .before .before .before .before .before .modification-kind .ensures) at (c .before .before .before .before .before .before .before .before .operations-into .ensures .0)) (rw (c .before .before .before .before .before .before .before .before .before .before .modification-kind .ensures) at (c .before .before .before .before .before .before .before .before .operations-into .ensures .1)) (c .before .before .before .before .before .before .a2 .given .1) in
     let hh = sym (rw (c .before .before .before .before .is-type .ensures) at (c .before .before .before .flag-if .ensures)) ∙ ap asFlag (c .before .enum-told3 .given .1) in
-    told-lists-no _ _ (second-no _ _ _ _ hg (lo .read) hh) (rw (c .why-flag2 .ensures, c .before .enum-told3 .given .1))
+    told-lists-no _ _ _ _ (second-no _ _ _ _ hg (lo .read) hh) (rw (c .why-flag2 .ensures, c .before .enum-told3 .given .1))
 
 operations-into-requires-2 : tie.Need-operations-into-requires-2
 operations-into-requires-2 c κs = search needs
@@ -83,18 +84,18 @@ why-list-requires-2 c κs = search needs
 returns-4 : tie.Need-returns-4
 returns-4 c =
     let hg = sym (c .before .before .before .before .before .before .before .before .before .before .before .before .before .before .before .before .before .before .before .first-flag .ensures) ∙ ap asFlag (c .before .before .before .before .before .before .before .before .before .before .before .before .before .before .before .before .before .a1 .given .1) in
-    let lo = list-got _ (rw (c .before .before .before .before .before .before .before .before .before .before .before .before .before .before .before .modification-kind .ensures) at (c .before .before .before .before .before .before .before .before .before .before .before .before .before .operations-into .ensures .0)) (rw (c .before .before .before .before .before .before .before .before .before .before .before .before .before .before .before .modification-kind .ensures) at (c .before .before .before .before .before .before .before .before .before .before .before .before .before .operations-into .ensures .1)) (c .before .before .before .before .before .before .before .before .before .before .before .a2 .given .1) in
+    let lo = list-read _ (rw (c .before .before .before .before .before .before .before .before .before .before .before .before .before .before .before .modification-kind .ensures) at (c .before .before .before .before .before .before .before .before .before .before .before .before .before .operations-into .ensures .0)) (rw (c .before .before .before .before .before .before .before .before .before .before .before .before .before .before .before .modification-kind .ensures) at (c .before .before .before .before .before .before .before .before .before .before .before .before .before .operations-into .ensures .1)) (c .before .before .before .before .before .before .before .before .before .before .before .a2 .given .1) in
     let hh = sym (rw (c .before .before .before .before .before .before .before .before .before .is-type .ensures) at (c .before .before .before .before .before .before .before .before .flag-if .ensures)) ∙ ap asFlag (c .before .before .before .before .before .before .a3 .given .1) in
     let hp = list-refused _ (rw (c .before .before .before .before .before .before .before .before .before .before .before .before .before .before .before .modification-kind .ensures) at (c .before .before .before .operations-into2 .ensures .0)) (c .before .enum-told4 .given .1) in
-    told-lists-no _ _ (l1-no _ _ _ _ hg (lo .read) hh hp) (rw (c .why-list2 .ensures, c .before .enum-told4 .given .1))
+    told-lists-no _ _ _ _ (l1-no _ _ _ _ hg (lo .read) hh hp) (rw (c .why-list2 .ensures, c .before .enum-told4 .given .1))
 
 returns-5 : tie.Need-returns-5
 returns-5 c =
     let hg = sym (c .before .before .before .before .before .before .before .before .before .before .before .before .before .before .before .before .before .before .before .first-flag .ensures) ∙ ap asFlag (c .before .before .before .before .before .before .before .before .before .before .before .before .before .before .before .before .before .a1 .given .1) in
-    let lo = list-got _ (rw (c .before .before .before .before .before .before .before .before .before .before .before .before .before .before .before .modification-kind .ensures) at (c .before .before .before .before .before .before .before .before .before .before .before .before .before .operations-into .ensures .0)) (rw (c .before .before .before .before .before .before .before .before .before .before .before .before .before .before .before .modification-kind .ensures) at (c .before .before .before .before .before .before .before .before .before .before .before .before .before .operations-into .ensures .1)) (c .before .before .before .before .before .before .before .before .before .before .before .a2 .given .1) in
+    let lo = list-read _ (rw (c .before .before .before .before .before .before .before .before .before .before .before .before .before .before .before .modification-kind .ensures) at (c .before .before .before .before .before .before .before .before .before .before .before .before .before .operations-into .ensures .0)) (rw (c .before .before .before .before .before .before .before .before .before .before .before .before .before .before .before .modification-kind .ensures) at (c .before .before .before .before .before .before .before .before .before .before .before .before .before .operations-into .ensures .1)) (c .before .before .before .before .before .before .before .before .before .before .before .a2 .given .1) in
     let hh = sym (rw (c .before .before .before .before .before .before .before .before .before .is-type .ensures) at (c .before .before .before .before .before .before .before .before .flag-if .ensures)) ∙ ap asFlag (c .before .before .before .before .before .before .a3 .given .1) in
-    let lp = list-got _ (rw (c .before .before .before .before .before .before .before .before .before .before .before .before .before .before .before .modification-kind .ensures) at (c .before .before .before .operations-into2 .ensures .0)) (rw (c .before .before .before .before .before .before .before .before .before .before .before .before .before .before .before .modification-kind .ensures) at (c .before .before .before .operations-into2 .ensures .1)) (c .before .a4 .given .1) in
-    told-lists (both-read _ _ _ _ hg (lo .read) hh (lp .read)) (ap (λ (l : Lists). ListsStep.Got l (c .before .a4 .given .0 .1 .0)) (lists-same (lo .value) (lp .value) (lo .holds .0) (lp .holds .0))) (lo .holds .1) (lp .holds .1)
+    let lp = list-read _ (rw (c .before .before .before .before .before .before .before .before .before .before .before .before .before .before .before .modification-kind .ensures) at (c .before .before .before .operations-into2 .ensures .0)) (rw (c .before .before .before .before .before .before .before .before .before .before .before .before .before .before .before .modification-kind .ensures) at (c .before .before .before .operations-into2 .ensures .1)) (c .before .a4 .given .1) in
+    told-lists _ _ (both-read _ _ _ _ hg (lo .read) hh (lp .read)) (ap (λ (l : Lists). ListsStep.Got l (c .before .a4 .given .0 .1 .0)) (lists-same (lo .list) (lp .list) (lo .counted) (lp .counted))) (lo .held) (lp .held)
 
 pub lists-into-spec : {M : Type 1} → statement M
 lists-into-spec =

@@ -3,7 +3,8 @@ use mathlib.Core.Path.{sym, ap, _∙_}
 use Rattle.header.specs.Stages.{asMarking}
 use Rattle.short.specs.declared.slice.Marks.{Marks}
 use Rattle.short.specs.declared.slice.MarksStep.{MarksStep}
-use Rattle.short.proofs.Told.{list-got, list-refused, told-marks-no, told-marks}
+use Rattle.words.proofs.Lent.{list-read, list-refused}
+use Rattle.short.proofs.Told.{told-marks-no, told-marks}
 use Rattle.short.proofs.Lists.{flags-no, marking-no, marking-read, marks-same}
 use Rattle.short.proofs.slice.marks_into.Statement.{statement}
 use Rattle.short.proofs.slice.marks_into.Tie as tie
@@ -23,7 +24,7 @@ why-marking-requires c κs = search needs
 returns : tie.Need-returns
 returns c =
     let hm = sym (c .before .before .before .marking-flags .ensures) ∙ ap asMarking (c .before .enum-told .given .1) in
-    told-marks-no _ (flags-no _ _ _ hm) (rw (c .why-marking .ensures, c .before .enum-told .given .1))
+    told-marks-no _ _ (flags-no _ _ _ hm) (rw (c .why-marking .ensures, c .before .enum-told .given .1))
 
 marking-kind-requires : tie.Need-marking-kind-requires
 marking-kind-requires c κs = search needs
@@ -44,13 +45,13 @@ returns-2 : tie.Need-returns-2
 returns-2 c =
     let hm = sym (c .before .before .before .before .before .before .before .before .before .before .marking-flags .ensures) ∙ ap asMarking (c .before .before .before .before .before .before .before .before .a1 .given .1) in
     let hq = list-refused _ (rw (c .before .before .before .before .before .marking-kind .ensures) at (c .before .before .before .operations-into .ensures .0)) (c .before .enum-told2 .given .1) in
-    told-marks-no _ (marking-no _ _ _ hm hq) (rw (c .why-list .ensures, c .before .enum-told2 .given .1))
+    told-marks-no _ _ (marking-no _ _ _ hm hq) (rw (c .why-list .ensures, c .before .enum-told2 .given .1))
 
 returns-3 : tie.Need-returns-3
 returns-3 c =
     let hm = sym (c .before .before .before .before .before .before .before .before .before .before .marking-flags .ensures) ∙ ap asMarking (c .before .before .before .before .before .before .before .before .a1 .given .1) in
-    let lq = list-got _ (rw (c .before .before .before .before .before .marking-kind .ensures) at (c .before .before .before .operations-into .ensures .0)) (rw (c .before .before .before .before .before .marking-kind .ensures) at (c .before .before .before .operations-into .ensures .1)) (c .before .a2 .given .1) in
-    told-marks (marking-read _ _ _ hm (lq .read)) (ap (λ (k : Marks). MarksStep.Got k (c .before .a2 .given .0 .1 .0)) (marks-same (lq .value) (lq .holds .0))) (lq .holds .1)
+    let lq = list-read _ (rw (c .before .before .before .before .before .marking-kind .ensures) at (c .before .before .before .operations-into .ensures .0)) (rw (c .before .before .before .before .before .marking-kind .ensures) at (c .before .before .before .operations-into .ensures .1)) (c .before .a2 .given .1) in
+    told-marks _ (marking-read _ _ _ hm (lq .read)) (ap (λ (k : Marks). MarksStep.Got k (c .before .a2 .given .0 .1 .0)) (marks-same (lq .list) (lq .counted))) (lq .held)
 
 pub marks-into-spec : {M : Type 1} → statement M
 marks-into-spec =
