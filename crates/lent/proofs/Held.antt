@@ -1,122 +1,97 @@
--- A unit read into lent words: the words of what is not there are zeros, and each body's answer.
+-- A unit read into lent words: each body's answer and what it leaves in the words, and the words cleared after a refusal.
 use Prim.Native.Nat.{ℕ}
-use mathlib.Core.Path.{_≡_, refl, sym, ap, _∙_}
+use mathlib.Core.Path.{_≡_, refl, ap, _∙_}
 use mathlib.Core.Bool.{Bool}
 use mathlib.Core.List.{List}
-use lib.IntN.{ℤ, pos}
+use native.Mathlib.Omega.{arith}
 use lib.ListN.{replicate}
 use Rattle.bits.specs.Bits.{Bits}
 use Rattle.bits.specs.Refusals.{Res, got, no}
+use Rattle.bits.specs.declared.refusals.Refusal.{Refusal}
 use Rattle.table.specs.declared.table.Table.{Table}
 use Rattle.syntax.specs.declared.context.UnitKind.{UnitKind}
 use Rattle.syntax.specs.declared.record.SliceHeader.{SliceHeader}
 use Rattle.syntax.specs.declared.record.Prefix.{Prefix}
-use Rattle.syntax.specs.Lists.{noOperations}
-use Rattle.syntax.specs.Sample.{noWeights}
 use Rattle.syntax.specs.SliceHeader.{readHeader}
 use Rattle.syntax.specs.Prefix.{prefix}
-use Rattle.reading.specs.Whole.{noHeader}
-use Rattle.short.specs.declared.slice.HeaderStep.{HeaderStep}
+use Rattle.codes.specs.declared.step.End.{End}
+use Rattle.words.specs.declared.list_words.PrefixShort.{PrefixShort}
 use Rattle.words.specs.declared.list_words.PrefixStep.{PrefixStep}
-use Rattle.words.specs.ListsLent.{listWords, prefixStep, prefixLeft}
-use Rattle.words.specs.WeightsLent.{weightWords}
-use Rattle.words.proofs.Columns.{equal-columns}
-use Rattle.words.proofs.Entries.{unused-words}
-use Rattle.short.specs.Short.{headerStep, wordsLeft, weightsOf}
+use Rattle.words.specs.Leaves.{leaves}
+use Rattle.words.specs.ListsLent.{prefixStep, prefixLeft}
+use Rattle.short.specs.Short.{HeaderWords, zeros, headerEnd, headerLeft}
 use Rattle.unit.specs.declared.answer.UnitAnswer.{UnitAnswer}
+use Rattle.unit.specs.declared.answer.UnitRead.{UnitRead}
 use Rattle.lent.specs.declared.whole.ShortAnswer.{ShortAnswer}
 use Rattle.unit.specs.Answer.{only, sliceAnswer, prefixAnswer}
 use Rattle.unit.specs.Unit.{UnitOut, untouched, sliceBits, prefixBits}
-use Rattle.lent.specs.Lent.{short, shortAnswer, Words, ReadInto, sliceShort, bodyShort, Cleared}
+use Rattle.lent.specs.Lent.{short, shortAnswer, Lent, after, wordsAfter, ReadInto, sliceShort, bodyShort, Held, Taken}
 
-no-list : replicate 198 0 ≡ listWords noOperations
-no-list = equal-columns 66 0
+-- ---- the body of a slice
 
-no-weights : replicate 256 (pos 0) ≡ weightWords noWeights
-unfolding weightWords
-no-weights = sym unused-words
+slice-held : (m : Res SliceHeader) (b : HeaderWords) {a : End} {w : HeaderWords} → a ≡ headerEnd m → w ≡ headerLeft m b → (base : List ℕ)
+    → (sliceShort a ≡ shortAnswer (sliceAnswer m)) × Held (sliceShort a) (sliceAnswer m) (record { header = b; base = base }) (record { header = w; base = base })
+unfolding headerEnd headerLeft shortAnswer wordsAfter only
+slice-held (got h e) b p q base = rw p (refl, rw q)
+slice-held (no r) b p q base = rw p (refl, tt)
 
--- what reading a header into words says, and a prefix
-abbrev HeaderInto : Res SliceHeader → HeaderStep → List ℕ → List ℕ → List ℕ → List ℤ → List ℤ → Type 0
-HeaderInto m a l0 l1 marking w0 w1 =
-    (a ≡ headerStep m)
-    × ((l0 ≡ wordsLeft (λ h. h .modifications .l0 .operations) m)
-    × ((l1 ≡ wordsLeft (λ h. h .modifications .l1 .operations) m)
-    × ((marking ≡ wordsLeft (λ h. h .«dec_ref_pic_marking» .operations) m)
-    × ((w0 ≡ weightsOf (λ h. h .«pred_weight_table» .l0) m) × (w1 ≡ weightsOf (λ h. h .«pred_weight_table» .l1) m)))))
+module _ {o : UnitOut} {left : List ℕ} where
+  pub slice-taken : (t : Table) (kind : UnitKind) (s : Bits) → o ≡ record { read = sliceBits t kind s; left = left } → (b : HeaderWords) {a : End} {r : ShortAnswer} {w : HeaderWords}
+      → a ≡ headerEnd (readHeader t kind s) → w ≡ headerLeft (readHeader t kind s) b → r ≡ sliceShort a
+      → (base : List ℕ) → Taken o r left (record { header = b; base = base }) (record { header = w; base = base })
+  unfolding sliceBits
+  slice-taken t kind s e b p q k base =
+      let h = slice-held (readHeader t kind s) b p q base in
+      rw (e, k) (record { answered = h .0; left = refl; held = h .1 })
 
-abbrev BodyInto : Res Prefix → PrefixStep → List ℕ → Type 0
-BodyInto m a base = (a ≡ prefixStep m) × (base ≡ prefixLeft m)
+-- ---- the body of a prefix unit
 
-slice-answered : (m : Res SliceHeader) {a : HeaderStep} → a ≡ headerStep m → sliceShort a ≡ shortAnswer (sliceAnswer m)
-unfolding headerStep shortAnswer only
-slice-answered (got h e) q = ap sliceShort q
-slice-answered (no r) q = ap sliceShort q
+body-held : (m : Res Prefix) (b : List ℕ) {a : PrefixStep} {w : List ℕ} → a ≡ prefixStep m → w ≡ prefixLeft m b → (h : HeaderWords)
+    → (bodyShort a ≡ shortAnswer (prefixAnswer m)) × Held (bodyShort a) (prefixAnswer m) (record { header = h; base = b }) (record { header = h; base = w })
+unfolding prefixStep leaves shortAnswer wordsAfter only
+body-held (got p e) b k q h = rw k (refl, rw q)
+body-held (no r) b k q h = rw k (refl, tt)
 
-body-answered : (m : Res Prefix) {a : PrefixStep} → a ≡ prefixStep m → bodyShort a ≡ shortAnswer (prefixAnswer m)
-unfolding prefixStep shortAnswer only
-body-answered (got p e) q = ap bodyShort q
-body-answered (no r) q = ap bodyShort q
+module _ {o : UnitOut} {left : List ℕ} where
+  pub body-taken : (there : Bool) (s : Bits) → o ≡ record { read = prefixBits there s; left = left } → (b : List ℕ) {a : PrefixStep} {r : ShortAnswer} {w : List ℕ}
+      → a ≡ prefixStep (prefix there .read s 0) → w ≡ prefixLeft (prefix there .read s 0) b → r ≡ bodyShort a
+      → (h : HeaderWords) → Taken o r left (record { header = h; base = b }) (record { header = h; base = w })
+  unfolding prefixBits
+  body-taken there s e b p q k h =
+      let l = body-held (prefix there .read s 0) b p q h in
+      rw (e, k) (record { answered = l .0; left = refl; held = l .1 })
 
-module _ {l0 l1 marking : List ℕ} {w0 w1 : List ℤ} {base : List ℕ} where
-  -- no record: zeros
-  pub none-held : (a : UnitAnswer) → Cleared l0 l1 marking w0 w1 → base ≡ replicate 198 0 → Words (only a) l0 l1 marking w0 w1 base
-  unfolding only noHeader
-  none-held a z b =
-      record {
-        modifications-l0 = z .l0-zeros ∙ no-list;
-        modifications-l1 = z .l1-zeros ∙ no-list;
-        markings = z .marking-zeros ∙ no-list;
-        weights-l0 = z .w0-zeros ∙ no-weights;
-        weights-l1 = z .w1-zeros ∙ no-weights;
-        base-markings = b ∙ no-list;
-      }
+  -- ---- no body
 
-  slice-held : (m : Res SliceHeader) {a : HeaderStep} → HeaderInto m a l0 l1 marking w0 w1 → base ≡ replicate 198 0 → Words (sliceAnswer m) l0 l1 marking w0 w1 base
-  unfolding wordsLeft weightsOf
-  slice-held (got h e) q b =
-      record {
-        modifications-l0 = q .1 .0;
-        modifications-l1 = q .1 .1 .0;
-        markings = q .1 .1 .1 .0;
-        weights-l0 = q .1 .1 .1 .1 .0;
-        weights-l1 = q .1 .1 .1 .1 .1;
-        base-markings = b ∙ no-list;
-      }
-  slice-held (no r) q b =
-      none-held (UnitAnswer.Refused r)
-      (record { l0-zeros = q .1 .0; l1-zeros = q .1 .1 .0; marking-zeros = q .1 .1 .1 .0; w0-zeros = q .1 .1 .1 .1 .0; w1-zeros = q .1 .1 .1 .1 .1 })
-      b
+  pub other-taken : (t : ℕ) → o ≡ untouched (UnitAnswer.Other t) left → (w : Lent) → Taken o (ShortAnswer.Other t) left w w
+  unfolding shortAnswer wordsAfter only
+  other-taken t e w = rw e (record { answered = refl; left = refl; held = refl })
 
-  body-held : (m : Res Prefix) {a : PrefixStep} → BodyInto m a base → Cleared l0 l1 marking w0 w1 → Words (prefixAnswer m) l0 l1 marking w0 w1 base
-  unfolding prefixLeft noHeader
-  body-held (got p e) q z =
-      record {
-        modifications-l0 = z .l0-zeros ∙ no-list;
-        modifications-l1 = z .l1-zeros ∙ no-list;
-        markings = z .marking-zeros ∙ no-list;
-        weights-l0 = z .w0-zeros ∙ no-weights;
-        weights-l1 = z .w1-zeros ∙ no-weights;
-        base-markings = q .1;
-      }
-  body-held (no r) q z = none-held (UnitAnswer.Refused r) z (q .1)
+  pub none-taken : (r : Refusal) → o ≡ untouched (UnitAnswer.Refused r) left → (b w : Lent) → Taken o (ShortAnswer.Refused r) left b w
+  unfolding shortAnswer only
+  none-taken r e b w = rw e (record { answered = refl; left = refl; held = tt })
 
-  module _ {o : UnitOut} {left : List ℕ} where
-    -- the bits of a body were read, and scratch is as it was left
-    pub slice-read : (t : Table) (kind : UnitKind) (s : Bits) → o ≡ record { read = sliceBits t kind s; left = left } → {a : HeaderStep} {r : ShortAnswer}
-        → HeaderInto (readHeader t kind s) a l0 l1 marking w0 w1 → base ≡ replicate 198 0 → r ≡ sliceShort a → ReadInto o r left l0 l1 marking w0 w1 base
-    unfolding sliceBits
-    slice-read t kind s e q b k =
-        rw e (record { answered = k ∙ slice-answered (readHeader t kind s) (q .0); left = refl; words = slice-held (readHeader t kind s) q b })
+-- ---- what the public function says
 
-    pub body-read : (there : Bool) (s : Bits) → o ≡ record { read = prefixBits there s; left = left } → {a : PrefixStep} {r : ShortAnswer}
-        → BodyInto (prefix there .read s 0) a base → Cleared l0 l1 marking w0 w1 → r ≡ bodyShort a → ReadInto o r left l0 l1 marking w0 w1 base
-    unfolding prefixBits
-    body-read there s e q z k =
-        rw e (record { answered = k ∙ body-answered (prefix there .read s 0) (q .0); left = refl; words = body-held (prefix there .read s 0) q z })
+refused-words : (a : UnitAnswer) (u : UnitRead) {r : Refusal} → ShortAnswer.Refused r ≡ short a u → (b : Lent) → after a u b ≡ record { header = zeros; base = replicate 198 0 }
+refused-words (UnitAnswer.Slice n) u e b = let z : _≡_ {A = ℕ} 0 1 = cc in absurd (omega arith)
+refused-words UnitAnswer.«Prefix» u e b = let z : _≡_ {A = ℕ} 0 1 = cc in absurd (omega arith)
+refused-words (UnitAnswer.Other t) u e b = let z : _≡_ {A = ℕ} 0 1 = cc in absurd (omega arith)
+refused-words (UnitAnswer.Refused r) u e b = refl
 
-    -- nothing was read
-    pub none-read : (a : UnitAnswer) → o ≡ untouched a left → Cleared l0 l1 marking w0 w1 → base ≡ replicate 198 0
-        → ReadInto o (short a (only a)) left l0 l1 marking w0 w1 base
-    unfolding shortAnswer only
-    none-read a e z b = rw e (record { answered = refl; left = refl; words = none-held a z b })
+module _ {o : UnitOut} {a : ShortAnswer} {scratch : List ℕ} {b w : Lent} (t : Taken o a scratch b w) where
+  pub kept-slice : (n : ℕ) → a ≡ ShortAnswer.Slice n → ReadInto o (ShortAnswer.Slice n) scratch b w
+  kept-slice n e = let k = rw e at t in record { answered = k .answered; left = k .left; words = k .held }
+
+  pub kept-prefix : (p : PrefixShort) → a ≡ ShortAnswer.«Prefix» p → ReadInto o (ShortAnswer.«Prefix» p) scratch b w
+  kept-prefix p e = let k = rw e at t in record { answered = k .answered; left = k .left; words = k .held }
+
+  pub kept-other : (n : ℕ) → a ≡ ShortAnswer.Other n → ReadInto o (ShortAnswer.Other n) scratch b w
+  kept-other n e = let k = rw e at t in record { answered = k .answered; left = k .left; words = k .held }
+
+  pub cleared : (r : Refusal) → a ≡ ShortAnswer.Refused r → {h : HeaderWords} {l : List ℕ} → h ≡ zeros → l ≡ replicate 198 0
+      → ReadInto o (ShortAnswer.Refused r) scratch b (record { header = h; base = l })
+  unfolding shortAnswer wordsAfter
+  cleared r e p q =
+      let k = rw e at t in
+      record { answered = k .answered; left = k .left; words = rw (p, q, refused-words (o .read .answer) (o .read) (k .answered) b) }

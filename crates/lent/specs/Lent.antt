@@ -1,22 +1,21 @@
--- Reading a unit into lent words: the answer without its lists, and the words that hold them.
+-- Reading a unit into lent words: the answer without its records, and the words that hold them.
 use Prim.Native.Nat.{ℕ}
 use mathlib.Core.Path.{_≡_}
 use mathlib.Core.List.{List}
-use lib.IntN.{ℤ, pos}
 use lib.ListN.{replicate}
-use Rattle.short.specs.declared.slice.HeaderStep.{HeaderStep}
+use lib.Seq.{sets}
+use Rattle.codes.specs.declared.step.End.{End}
 use Rattle.words.specs.declared.list_words.PrefixStep.{PrefixStep}
 use Rattle.words.specs.ListsLent.{listWords, prefixShort}
-use Rattle.words.specs.WeightsLent.{weightWords}
-use Rattle.short.specs.Short.{shortOf}
+use Rattle.short.specs.Short.{HeaderWords, headerIn, zeros}
 use Rattle.unit.specs.declared.answer.UnitAnswer.{UnitAnswer}
 use Rattle.unit.specs.declared.answer.UnitRead.{UnitRead}
 use Rattle.lent.specs.declared.whole.ShortAnswer.{ShortAnswer}
 use Rattle.unit.specs.Unit.{UnitOut}
 
--- the answer, with the record that it speaks of
+-- the answer; a slice's header stands in the words, and so does a prefix's list
 abbrev pub short : UnitAnswer → UnitRead → ShortAnswer
-short (UnitAnswer.Slice n) u = ShortAnswer.Slice (shortOf (u .header)) n
+short (UnitAnswer.Slice n) u = ShortAnswer.Slice n
 short UnitAnswer.«Prefix» u = ShortAnswer.«Prefix» (prefixShort (u .prefix))
 short (UnitAnswer.Other t) u = ShortAnswer.Other t
 short (UnitAnswer.Refused r) u = ShortAnswer.Refused r
@@ -24,34 +23,45 @@ short (UnitAnswer.Refused r) u = ShortAnswer.Refused r
 unfoldable pub shortAnswer : UnitRead → ShortAnswer
 shortAnswer u = short (u .answer) u
 
--- the words hold the lists of both records; a record that the answer does not speak of is zero, and so are its words
-pub record Words (u : UnitRead) (l0 l1 marking : List ℕ) (w0 w1 : List ℤ) (base : List ℕ) : Type 0 where
-  pub modifications-l0 : l0 ≡ listWords (u .header .modifications .l0 .operations)
-  pub modifications-l1 : l1 ≡ listWords (u .header .modifications .l1 .operations)
-  pub markings : marking ≡ listWords (u .header .«dec_ref_pic_marking» .operations)
-  pub weights-l0 : w0 ≡ weightWords (u .header .«pred_weight_table» .l0)
-  pub weights-l1 : w1 ≡ weightWords (u .header .«pred_weight_table» .l1)
-  pub base-markings : base ≡ listWords (u .prefix .«base_marking»)
+-- all words that a caller lends
+pub record Lent : Type 0 where
+  pub header : HeaderWords
+  pub base : List ℕ
 
--- what is answered, scratch at exit and the words at exit, for a unit of which o is read
-pub record ReadInto (o : UnitOut) (answer : ShortAnswer) (scratch l0 l1 marking : List ℕ) (w0 w1 : List ℤ) (base : List ℕ) : Type 0 where
+-- what is left in words that were `w` before: a slice's header, a prefix's list, zeros beside a refusal; all other words are as before
+abbrev pub after : UnitAnswer → UnitRead → Lent → Lent
+after (UnitAnswer.Slice n) u w = record { header = headerIn (u .header) (w .header); base = w .base }
+after UnitAnswer.«Prefix» u w = record { header = w .header; base = sets (w .base) 0 (listWords (u .prefix .«base_marking»)) }
+after (UnitAnswer.Other t) u w = w
+after (UnitAnswer.Refused r) u w = record { header = zeros; base = replicate 198 0 }
+
+unfoldable pub wordsAfter : UnitRead → Lent → Lent
+wordsAfter u w = after (u .answer) u w
+
+-- what is answered, scratch at exit, and the words at exit, w, which were b at entry, for a unit of which o is read
+pub record ReadInto (o : UnitOut) (answer : ShortAnswer) (scratch : List ℕ) (b w : Lent) : Type 0 where
   pub answered : answer ≡ shortAnswer (o .read)
   pub left : scratch ≡ o .left
-  pub words : Words (o .read) l0 l1 marking w0 w1 base
+  pub words : w ≡ wordsAfter (o .read) b
 
 -- ---- private contracts
 
-abbrev pub sliceShort : HeaderStep → ShortAnswer
-sliceShort (HeaderStep.Got h c) = ShortAnswer.Slice h (c .at)
-sliceShort (HeaderStep.Refused r) = ShortAnswer.Refused r
+abbrev pub sliceShort : End → ShortAnswer
+sliceShort (End.At c) = ShortAnswer.Slice (c .at)
+sliceShort (End.Refused r) = ShortAnswer.Refused r
 
 abbrev pub bodyShort : PrefixStep → ShortAnswer
 bodyShort (PrefixStep.Got p c) = ShortAnswer.«Prefix» p
 bodyShort (PrefixStep.Refused r) = ShortAnswer.Refused r
 
-pub record Cleared (l0 l1 marking : List ℕ) (w0 w1 : List ℤ) : Type 0 where
-  pub l0-zeros : l0 ≡ replicate 198 0
-  pub l1-zeros : l1 ≡ replicate 198 0
-  pub marking-zeros : marking ≡ replicate 198 0
-  pub w0-zeros : w0 ≡ replicate 256 (pos 0)
-  pub w1-zeros : w1 ≡ replicate 256 (pos 0)
+-- the words, but beside a refusal, of which nothing is said
+abbrev pub Held : ShortAnswer → UnitRead → (before words : Lent) → Type 0
+Held (ShortAnswer.Slice n) u before words = words ≡ wordsAfter u before
+Held (ShortAnswer.«Prefix» p) u before words = words ≡ wordsAfter u before
+Held (ShortAnswer.Other t) u before words = words ≡ wordsAfter u before
+Held (ShortAnswer.Refused r) u before words = Unit {0}
+
+pub record Taken (o : UnitOut) (answer : ShortAnswer) (scratch : List ℕ) (b w : Lent) : Type 0 where
+  pub answered : answer ≡ shortAnswer (o .read)
+  pub left : scratch ≡ o .left
+  pub held : Held answer (o .read) b w

@@ -14,12 +14,14 @@ use words::list_words::PrefixStep;
 use words::list_words::clear_list;
 use words::list_words::prefix_into;
 ghost use mathlib.Core.Path.{_≡_};
-ghost use Prim.Native.Nat.{_≤_};
+ghost use mathlib.Core.List.{List};
+ghost use Prim.Native.Nat.{ℕ, _≤_};
 ghost use lib.ListN.{length};
 ghost use Rattle.bits.specs.Refusals.{limit};
 ghost use Rattle.header.specs.Lead.{tableOf};
 ghost use Rattle.unit.specs.Unit.{inBody, sliceBits, prefixBits, unitRead};
-ghost use Rattle.lent.specs.Lent.{sliceShort, bodyShort, lentIs, Taken, ReadInto};
+ghost use Rattle.short.specs.Short.{HeaderWords};
+ghost use Rattle.lent.specs.Lent.{sliceShort, bodyShort, Taken, ReadInto};
 
 pub enum ShortAnswer {
     // a slice header, of so many bits, which stands in the words
@@ -65,7 +67,7 @@ fn slice_into<'a>(
     w1: &mut [i32; 256],
 ) -> ShortAnswer
     requires { ⌜ length (now unit) ≤ limit ⌝ }
-    ensures { λ r. ⌜ SLICE ⌝ }
+    ensures { λ r. ⌜ ((b : List ℕ) → Taken (inBody (sliceBits (tableOf (now (sequences .entry)) (now (pictures .entry))) kind) (now (unit .entry)) from (now (scratch .entry))) r (now (scratch .exit)) (record { header = record { numbers = now (numbers .entry); signed = now (signed .entry); l0 = now (l0 .entry); l1 = now (l1 .entry); marking = now (marking .entry); w0 = now (w0 .entry); w1 = now (w1 .entry) }; base = b }) (record { header = record { numbers = now (numbers .exit); signed = now (signed .exit); l0 = now (l0 .exit); l1 = now (l1 .exit); marking = now (marking .exit); w0 = now (w0 .exit); w1 = now (w1 .exit) }; base = b })) ⌝ }
 {
     match unescape(unit, from, scratch) {
         Body::Of(n) => slice_short(read_header_into(
@@ -88,7 +90,7 @@ fn slice_into<'a>(
 // The body of a prefix unit, which goes to scratch.
 fn body_into(unit: &[u8], scratch: &mut [u8], there: bool, base: &mut [u32; 198]) -> ShortAnswer
     requires { ⌜ length (now unit) ≤ limit ⌝ }
-    ensures { λ r. ⌜ BODY ⌝ }
+    ensures { λ r. ⌜ ((h : HeaderWords) → Taken (inBody (prefixBits there) (now (unit .entry)) 4 (now (scratch .entry))) r (now (scratch .exit)) (record { header = h; base = now (base .entry) }) (record { header = h; base = now (base .exit) })) ⌝ }
 {
     match unescape(unit, 4, scratch) {
         Body::Of(n) => body_short(prefix_into(&scratch[..n], Cursor { at: 0 }, there, base)),
@@ -111,7 +113,7 @@ fn take<'a>(
     w1: &mut [i32; 256],
     base: &mut [u32; 198],
 ) -> ShortAnswer
-    ensures { λ r. ⌜ TAKE ⌝ }
+    ensures { λ r. ⌜ Taken (unitRead (tableOf (now (sequences .entry)) (now (pictures .entry))) (now (unit .entry)) (now (scratch .entry))) r (now (scratch .exit)) (record { header = record { numbers = now (numbers .entry); signed = now (signed .entry); l0 = now (l0 .entry); l1 = now (l1 .entry); marking = now (marking .entry); w0 = now (w0 .entry); w1 = now (w1 .entry) }; base = now (base .entry) }) (record { header = record { numbers = now (numbers .exit); signed = now (signed .exit); l0 = now (l0 .exit); l1 = now (l1 .exit); marking = now (marking .exit); w0 = now (w0 .exit); w1 = now (w1 .exit) }; base = now (base .exit) }) ⌝ }
 {
     match begin(unit) {
         Begun::Slice(kind, from) => slice_into(
@@ -151,7 +153,7 @@ pub fn read_unit_into<'a>(
     w1: &mut [i32; 256],
     base: &mut [u32; 198],
 ) -> ShortAnswer
-    ensures { λ r. ⌜ PUB ⌝ }
+    ensures { λ r. ⌜ ReadInto (unitRead (tableOf (now (sequences .entry)) (now (pictures .entry))) (now (unit .entry)) (now (scratch .entry))) r (now (scratch .exit)) (record { header = record { numbers = now (numbers .entry); signed = now (signed .entry); l0 = now (l0 .entry); l1 = now (l1 .entry); marking = now (marking .entry); w0 = now (w0 .entry); w1 = now (w1 .entry) }; base = now (base .entry) }) (record { header = record { numbers = now (numbers .exit); signed = now (signed .exit); l0 = now (l0 .exit); l1 = now (l1 .exit); marking = now (marking .exit); w0 = now (w0 .exit); w1 = now (w1 .exit) }; base = now (base .exit) }) ⌝ }
 {
     match take(
         sequences,
