@@ -2,9 +2,7 @@
 use lib.IntN.{pos}
 use Rattle.bits.specs.declared.refusals.Refusal.{Refusal}
 use Rattle.lists.specs.Absent.{noPrefix}
-use Rattle.reading.specs.Whole.{noHeader}
 use Rattle.words.specs.ListsLent.{prefixShort}
-use Rattle.short.specs.Short.{shortOf}
 use Rattle.unit.specs.declared.answer.UnitRead.{UnitRead}
 use Rattle.lent.specs.declared.whole.ShortAnswer.{ShortAnswer}
 use Rattle.lent.specs.Lent.{shortAnswer}
@@ -12,11 +10,11 @@ use Rattle.exports.specs.declared.units.ReadOut.{ReadOut}
 
 -- 0, another type, with the type; 1, a slice, with its bits; 2, a prefix unit; 3, refused, with number and value
 unfoldable pub told : ShortAnswer → ReadOut
-told (ShortAnswer.Slice h n) = record { answer = 1; number = 0; value = pos 0; bits = n; header = h; prefix = prefixShort noPrefix }
-told (ShortAnswer.«Prefix» p) = record { answer = 2; number = 0; value = pos 0; bits = 0; header = shortOf noHeader; prefix = p }
-told (ShortAnswer.Other t) = record { answer = 0; number = t; value = pos 0; bits = 0; header = shortOf noHeader; prefix = prefixShort noPrefix }
-told (ShortAnswer.Refused r) = record { answer = 3; number = r .number; value = r .value; bits = 0; header = shortOf noHeader; prefix = prefixShort noPrefix }
+told (ShortAnswer.Slice n) = record { answer = 1; number = 0; value = pos 0; bits = n; prefix = prefixShort noPrefix }
+told (ShortAnswer.«Prefix» p) = record { answer = 2; number = 0; value = pos 0; bits = 0; prefix = p }
+told (ShortAnswer.Other t) = record { answer = 0; number = t; value = pos 0; bits = 0; prefix = prefixShort noPrefix }
+told (ShortAnswer.Refused r) = record { answer = 3; number = r .number; value = r .value; bits = 0; prefix = prefixShort noPrefix }
 
--- so, without the lists
+-- so; a slice's header and a prefix's list stand in the words
 unfoldable pub unitOut : UnitRead → ReadOut
 unitOut u = told (shortAnswer u)

@@ -9,7 +9,7 @@ ghost use Rattle.lists.specs.Absent.{noPrefix};
 ghost use Rattle.header.specs.Lead.{tableOf};
 ghost use Rattle.words.specs.ListsLent.{prefixShort};
 ghost use Rattle.unit.specs.Unit.{unitRead};
-ghost use Rattle.lent.specs.Lent.{Words};
+ghost use Rattle.lent.specs.Lent.{Lent, wordsAfter};
 ghost use Rattle.exports.specs.Units.{told, unitOut};
 
 // What reading a unit answers. What the answer does not speak of is zero.
@@ -94,7 +94,7 @@ pub extern "C" fn tuz_read_unit<'a>(
     base: &mut [u32; 198],
 ) -> ReadOut
     ensures { λ r. ⌜ (r ≡ unitOut (unitRead (tableOf (now (sequences .entry)) (now (pictures .entry))) (now (unit .entry)) (now (scratch .entry)) .read)) × (now (scratch .exit) ≡ unitRead (tableOf (now (sequences .entry)) (now (pictures .entry))) (now (unit .entry)) (now (scratch .entry)) .left) ⌝ }
-    ensures words { λ r. ⌜ Words (unitRead (tableOf (now (sequences .entry)) (now (pictures .entry))) (now (unit .entry)) (now (scratch .entry)) .read) (now (l0 .exit)) (now (l1 .exit)) (now (marking .exit)) (now (w0 .exit)) (now (w1 .exit)) (now (base .exit)) ⌝ }
+    ensures words { λ r. ⌜ _≡_ {A = Lent} (record { header = record { numbers = now (numbers .exit); signed = now (signed .exit); l0 = now (l0 .exit); l1 = now (l1 .exit); marking = now (marking .exit); w0 = now (w0 .exit); w1 = now (w1 .exit) }; base = now (base .exit) }) (wordsAfter (unitRead (tableOf (now (sequences .entry)) (now (pictures .entry))) (now (unit .entry)) (now (scratch .entry)) .read) (record { header = record { numbers = now (numbers .entry); signed = now (signed .entry); l0 = now (l0 .entry); l1 = now (l1 .entry); marking = now (marking .entry); w0 = now (w0 .entry); w1 = now (w1 .entry) }; base = now (base .entry) })) ⌝ }
 {
     tell(read_unit_into(
         sequences,

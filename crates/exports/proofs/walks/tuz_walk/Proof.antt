@@ -2,7 +2,9 @@ use mathlib.Core.Path.{refl, sym, _∙_}
 use native.Mathlib.Omega.{arith}
 use Rattle.walk.proofs.Chain.{Went, went}
 use Rattle.walk.proofs.Steps.{found-at, none-read, was-read}
+use Rattle.unit.specs.Answer.{only}
 use Rattle.walk.specs.Walked.{nothing}
+use Rattle.lent.specs.Lent.{wordsAfter}
 use Rattle.exports.specs.Units.{unitOut}
 use Rattle.exports.specs.Walks.{came, walkOut}
 use borrow.Author.Needs.{needs}
@@ -19,15 +21,12 @@ next-step-requires c κs = search needs
 enum-known-step : tie.Need-enum-known-step
 enum-known-step c = search needs
 
-no-words-requires : tie.Need-no-words-requires
-no-words-requires c κs = search needs
-
 no-unit-requires : tie.Need-no-unit-requires
 no-unit-requires c κs = search needs
 
 returns : tie.Need-returns
-unfolding nothing
-returns c = rw (none-read _ _ _ _ (c .before .before .before .before .before .before .before .before .before .next-step .ensures) (c .before .before .before .before .before .before .before .before .match .keys2)) ((c .no-unit .ensures, refl), c .before .no-words .ensures)
+unfolding nothing wordsAfter only
+returns c = rw (none-read _ _ _ _ (c .before .before .next-step .ensures) (c .before .match .keys2)) ((c .no-unit .ensures, refl), refl)
 
 add-end : tie.Need-add-end
 add-end c = let w = found (c .before) in omega arith
@@ -54,7 +53,7 @@ returns-2 : tie.Need-returns-2
 unfolding came unitOut walkOut
 returns-2 c =
     let g = c .before .before .before .read-unit-into .ensures in
-    rw (was-read _ _ _ _ (sym (c .before .before .before .before .before .before .before .before .before .before .before .before .before .before .before .next-step .ensures) ∙ c .before .before .before .before .before .before .before .before .before .before .before .before .before .step .given .1)) ((rw (c .tell .ensures, g .answered), g .left), g .words)
+    rw (was-read _ _ _ _ (sym (c .before .before .before .before .before .before .before .before .before .before .before .before .before .before .before .before .before .next-step .ensures) ∙ c .before .before .before .before .before .before .before .before .before .before .before .before .before .before .before .step .given .1)) ((rw (c .tell .ensures, g .answered), g .left), g .words)
 
 pub tuz-walk-spec : {M : Type 1} → statement M
 tuz-walk-spec =
@@ -62,7 +61,6 @@ tuz-walk-spec =
     (tie.spec
     next-step-requires
     enum-known-step
-    no-words-requires
     no-unit-requires
     returns
     add-end
