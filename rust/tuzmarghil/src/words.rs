@@ -1,9 +1,9 @@
 //! The words that a reading is lent: a header's fields, its lists and weights stand there, and no record that holds them is copied.
 
 use crate::raw::{
-    ActiveCounts, DecRefPicMarking, Deltas, Filter, Frame, HeaderShort, MarkedFlag, MarkedNumber,
-    MarkedSigned, Modification, Modifications, Operations, OrderCount, Plain, PredWeightTable,
-    PrefixShort, Quantiser, SliceHeader, Weight, WeightList, WeightsShort,
+    ActiveCounts, Deltas, Filter, Frame, HeaderShort, MarkedFlag, MarkedNumber, MarkedSigned,
+    Modifications, Operations, OrderCount, Plain, PrefixShort, Quantiser, SliceHeader, Weight,
+    WeightList, WeightsShort,
 };
 
 /// The words of a header's fields that are no signed numbers: a mark and a value for what may be absent, marks and flags as 0 and 1, and of each list the count. A
@@ -53,8 +53,8 @@ impl Default for Words {
 }
 
 impl Words {
-    /// The header of the slice that was read, without its lists.
-    #[inline]
+    /// The header of the slice that was read, without its lists. Inlined always: who asks for three fields then pays for three.
+    #[inline(always)]
     pub fn header(&self) -> HeaderShort {
         let mut at = Fields {
             words: self,
@@ -211,17 +211,12 @@ impl<'a> List<'a> {
         entries.map(|e| (e[0], e[1], e[2]))
     }
 
-    fn whole(self) -> Operations {
-        let mut to = Operations {
-            count: self.1,
-            codes: [0; 66],
-            first: [0; 66],
-            second: [0; 66],
-        };
+    /// Over zeros, which stay behind the last entry.
+    fn put(self, to: &mut Operations) {
+        to.count = self.1;
         for (i, entry) in self.entries().enumerate() {
             (to.codes[i], to.first[i], to.second[i]) = entry;
         }
-        to
     }
 }
 
@@ -235,15 +230,12 @@ impl<'a> Weights<'a> {
         self.0.chunks_exact(8).take(self.1 as usize).map(weight)
     }
 
-    fn whole(self) -> WeightList {
-        let mut to = WeightList {
-            count: self.1,
-            entries: [weight(&[0; 8]); 32],
-        };
+    /// Over zeros, which stay behind the last entry.
+    fn put(self, to: &mut WeightList) {
+        to.count = self.1;
         for (i, entry) in self.entries().enumerate() {
             to.entries[i] = entry;
         }
-        to
     }
 }
 
@@ -262,7 +254,7 @@ fn weight(w: &[i32]) -> Weight {
 
 /// The whole record of a header that was read, as writing takes it.
 pub fn whole(h: &HeaderShort, words: &Words) -> SliceHeader {
-    SliceHeader {
+    let mut to = SliceHeader {
         first_mb_in_slice: h.first_mb_in_slice,
         slice_type: h.slice_type,
         pic_parameter_set_id: h.pic_parameter_set_id,
@@ -270,32 +262,27 @@ pub fn whole(h: &HeaderShort, words: &Words) -> SliceHeader {
         frame: h.frame,
         order_count: h.order_count,
         active_counts: h.active_counts,
-        modifications: Modifications {
-            l0: Modification {
-                flag: h.ref_pic_list_modification_flag_l0,
-                operations: words.modifications_l0(h).whole(),
-            },
-            l1: Modification {
-                flag: h.ref_pic_list_modification_flag_l1,
-                operations: words.modifications_l1(h).whole(),
-            },
-        },
-        pred_weight_table: PredWeightTable {
-            there: h.weights.there,
-            luma_log2_weight_denom: h.weights.luma_log2_weight_denom,
-            chroma_log2_weight_denom: h.weights.chroma_log2_weight_denom,
-            l0: words.weights_l0(h).whole(),
-            l1: words.weights_l1(h).whole(),
-        },
-        dec_ref_pic_marking: DecRefPicMarking {
-            no_output_of_prior_pics_flag: h.no_output_of_prior_pics_flag,
-            long_term_reference_flag: h.long_term_reference_flag,
-            adaptive_ref_pic_marking_mode_flag: h.adaptive_ref_pic_marking_mode_flag,
-            operations: words.markings(h).whole(),
-        },
         quantiser: h.quantiser,
         filter: h.filter,
-    }
+        ..SliceHeader::default()
+    };
+    let Modifications { l0, l1 } = &mut to.modifications;
+    l0.flag = h.ref_pic_list_modification_flag_l0;
+    l1.flag = h.ref_pic_list_modification_flag_l1;
+    words.modifications_l0(h).put(&mut l0.operations);
+    words.modifications_l1(h).put(&mut l1.operations);
+    let weights = &mut to.pred_weight_table;
+    weights.there = h.weights.there;
+    weights.luma_log2_weight_denom = h.weights.luma_log2_weight_denom;
+    weights.chroma_log2_weight_denom = h.weights.chroma_log2_weight_denom;
+    words.weights_l0(h).put(&mut weights.l0);
+    words.weights_l1(h).put(&mut weights.l1);
+    let marking = &mut to.dec_ref_pic_marking;
+    marking.no_output_of_prior_pics_flag = h.no_output_of_prior_pics_flag;
+    marking.long_term_reference_flag = h.long_term_reference_flag;
+    marking.adaptive_ref_pic_marking_mode_flag = h.adaptive_ref_pic_marking_mode_flag;
+    words.markings(h).put(&mut marking.operations);
+    to
 }
 
 #[cfg(test)]
