@@ -14,9 +14,9 @@ const NO_EXTENSION: ExtensionGiven = ExtensionGiven {
     b3: 0,
 };
 
-fn take(found: &mut Found, read: &ReadOut) {
+fn take(found: &mut Found, read: &ReadOut, words: &Words) {
     if read.answer == SLICE {
-        let h = &read.header;
+        let h = words.header();
         found.slice(
             h.first_mb_in_slice,
             h.frame.frame_num,
@@ -25,7 +25,7 @@ fn take(found: &mut Found, read: &ReadOut) {
     }
 }
 
-/// What a reading is lent: room for a body, and words for lists and weights.
+/// What a reading is lent: room for a body, and words for a header.
 struct Lent {
     scratch: Vec<u8>,
     words: Words,
@@ -72,10 +72,10 @@ pub fn walk<'a>(
     let mut lent = Lent::new(longest);
     move || {
         let mut found = Found::default();
-        lent.steps(table, recording, |step, _| {
+        lent.steps(table, recording, |step, lent| {
             found.units += 1;
             found.lengths += step.length as u64;
-            take(&mut found, &step.read);
+            take(&mut found, &step.read, &lent.words);
         });
         found
     }
@@ -117,7 +117,7 @@ pub fn heads<'a>(table: &'a Table, units: &'a [&'a [u8]]) -> impl FnMut() -> Fou
             lent.read(table, unit, &mut out);
             found.units += 1;
             found.lengths += unit.len() as u64;
-            take(&mut found, &out);
+            take(&mut found, &out, &lent.words);
         }
         found
     }
@@ -138,7 +138,7 @@ pub fn headers(table: &Table, units: &[&[u8]]) -> Vec<Header> {
     for unit in units {
         lent.read(table, unit, &mut out);
         assert_eq!(out.answer, SLICE, "a unit that is no good slice");
-        let record = raw::whole(&out.header, &lent.words);
+        let record = raw::whole(&lent.words.header(), &lent.words);
         let wrote = raw::write_header(table.as_raw(), unit[0], NO_EXTENSION, record, &mut buffer);
         assert_eq!((wrote.number, wrote.bits), (0, out.bits));
         let (whole, spare) = (out.bits / 8, out.bits % 8);
@@ -184,10 +184,10 @@ pub fn rewrite<'a>(
         lent.steps(table, recording, |step, lent| {
             found.units += 1;
             found.lengths += step.length as u64;
-            take(&mut found, &step.read);
+            take(&mut found, &step.read, &lent.words);
             if step.read.answer == SLICE {
                 let first = recording[step.place];
-                let record = raw::whole(&step.read.header, &lent.words);
+                let record = raw::whole(&lent.words.header(), &lent.words);
                 let wrote =
                     raw::write_header(table.as_raw(), first, NO_EXTENSION, record, &mut buffer);
                 bits += wrote.bits;

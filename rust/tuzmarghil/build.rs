@@ -3,7 +3,7 @@ use std::path::{Path, PathBuf};
 use std::process::Command;
 use std::{env, fs};
 
-/// The crate that exports, and the files whose `#[repr(C)]` structs cross the boundary (`Prefix` stands among them and does not).
+/// The crate that exports, and the files whose `#[repr(C)]` structs cross the boundary, or are made of the words that do (`Prefix` stands among them and is neither).
 const EXPORTS: &str = "exports";
 const RECORDS: [&str; 12] = [
     "table/src/sets.rt",
@@ -39,11 +39,12 @@ fn main() {
 /// The archive: the one that `TUZ_ARCHIVE` names, else one that is proved and built here.
 fn archive(root: &Path, name: &str) -> PathBuf {
     println!("cargo:rerun-if-env-changed=TUZ_ARCHIVE");
-    if let Some(given) = env::var_os("TUZ_ARCHIVE") {
-        return PathBuf::from(given);
-    }
     for path in ["crates", "crates.txt", "bench/native-archive"] {
         println!("cargo:rerun-if-changed={}", root.join(path).display());
+    }
+    if let Some(given) = env::var_os("TUZ_ARCHIVE").map(PathBuf::from) {
+        println!("cargo:rerun-if-changed={}", given.display());
+        return given;
     }
     let done = Command::new(root.join("bench/native-archive"))
         .arg(EXPORTS)

@@ -100,7 +100,7 @@ pub fn write(unit: &[u8], out: &ReadOut, words: &Words, form: &mut impl Form) {
         1 => {
             to.0.kind("slice");
             to.first_byte(unit, true);
-            to.slice(&out.header, words);
+            to.slice(&words.header(), words);
             to.number("bits", out.bits as i64);
         }
         2 => {
@@ -487,47 +487,16 @@ mod tests {
     /// Each name is in the list of names, and they come in its order: a row of CSV is written so.
     #[test]
     fn names_stand_in_reading_order() {
-        let there = MarkedNumber {
-            there: true,
-            value: 1,
-        };
-        let signed = MarkedSigned {
-            there: true,
-            value: -1,
+        // a B slice in which every mark and every flag is set
+        let words = Words {
+            numbers: [1; 57],
+            ..Words::default()
         };
         let flag = MarkedFlag {
             there: true,
             value: true,
         };
         let mut out = ReadOut::default();
-        let h = &mut out.header;
-        h.slice_type = 1;
-        h.frame.colour_plane_id = there;
-        h.frame.field_pic_flag = flag;
-        h.frame.bottom_field_flag = flag;
-        h.frame.idr_pic_id = there;
-        h.order_count.pic_order_cnt_lsb = there;
-        h.order_count.delta_pic_order_cnt_bottom = signed;
-        h.order_count.delta_pic_order_cnt.there = true;
-        h.order_count.redundant_pic_cnt = there;
-        h.active_counts.direct_spatial_mv_pred_flag = flag;
-        h.active_counts.num_ref_idx_active_override_flag = flag;
-        h.active_counts.num_ref_idx_l0_active_minus1 = there;
-        h.active_counts.num_ref_idx_l1_active_minus1 = there;
-        h.ref_pic_list_modification_flag_l0 = flag;
-        h.ref_pic_list_modification_flag_l1 = flag;
-        h.weights.there = true;
-        h.weights.chroma_log2_weight_denom = there;
-        h.no_output_of_prior_pics_flag = flag;
-        h.long_term_reference_flag = flag;
-        h.adaptive_ref_pic_marking_mode_flag = flag;
-        h.quantiser.cabac_init_idc = there;
-        h.quantiser.sp_for_switch_flag = flag;
-        h.quantiser.slice_qs_delta = signed;
-        h.filter.disable_deblocking_filter_idc = there;
-        h.filter.slice_alpha_c0_offset_div2 = signed;
-        h.filter.slice_beta_offset_div2 = signed;
-        h.filter.slice_group_change_cycle = there;
         out.prefix.store_ref_base_pic_flag = flag;
         out.prefix.additional_prefix_nal_unit_extension_flag = flag;
 
@@ -553,7 +522,7 @@ mod tests {
             (3, [0, 0, 0, 0]),
         ] {
             out.answer = answer;
-            write(&unit, &out, &Words::default(), &mut order);
+            write(&unit, &out, &words, &mut order);
         }
         assert!(NAMES.iter().all(|n| order.1.contains(n)));
     }

@@ -54,7 +54,7 @@ fn rewritten(table: &Table, unit: &[u8], body: &[u8], read: &ReadOut, words: &Wo
         _ => return Ok(()),
     };
     ensure!(
-        slice.header.to_raw(table)? == raw::whole(&read.header, words),
+        slice.header.to_raw(table)? == raw::whole(&words.header(), words),
         "another record comes back"
     );
     let mut buffer = [0xA5; 6144];

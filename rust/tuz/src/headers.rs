@@ -25,7 +25,7 @@ pub fn run(clip: &Clip, format: Format, to: &mut impl Write) -> Result<Totals> {
     }
     let mut line = Vec::new();
     clip.units(&table, |r| {
-        totals.take(r.length, r.read);
+        totals.take(r);
         line.clear();
         let (place, length) = (r.place as i64, r.length as i64);
         match format {

@@ -4,13 +4,14 @@ use crate::input::Clip;
 use crate::totals::Totals;
 use anyhow::Result;
 use std::io::Write;
+use tuzmarghil::raw::HeaderShort;
 use tuzmarghil::{NalHeaderExtension, StreamReport, Table};
 
 pub fn run(clip: &Clip, to: &mut impl Write) -> Result<Totals> {
     let table = clip.table()?;
     let mut totals = Totals::default();
     clip.units(&table, |r| {
-        totals.take(r.length, r.read);
+        totals.take(r);
         line(&table, r, to)
     })?;
     writeln!(to, "end units={} refused={}", totals.units, totals.refused)?;
@@ -23,8 +24,9 @@ fn line(table: &Table, r: &StreamReport<'_>, to: &mut impl Write) -> Result<()> 
     match read.answer {
         0 => writeln!(to, "other type={}", read.number)?,
         1 => {
-            let (kind, frame) = (read.header.slice_type, read.header.frame.frame_num);
-            let qp = slice_qp(table, r);
+            let header = r.words.header();
+            let (kind, frame) = (header.slice_type, header.frame.frame_num);
+            let qp = slice_qp(table, &header);
             writeln!(to, "slice type={kind} frame={frame} qp={qp}")?;
         }
         2 => {
@@ -40,8 +42,7 @@ fn line(table: &Table, r: &StreamReport<'_>, to: &mut impl Write) -> Result<()> 
 }
 
 /// The final QP of a slice that was read by this table.
-pub fn slice_qp(table: &Table, r: &StreamReport<'_>) -> i32 {
-    let header = &r.read.header;
+pub fn slice_qp(table: &Table, header: &HeaderShort) -> i32 {
     let picture = table
         .picture(header.pic_parameter_set_id)
         .unwrap_or_default();

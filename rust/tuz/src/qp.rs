@@ -35,12 +35,13 @@ pub fn run(
     let mut totals = Totals::default();
     let mut points = Vec::new();
     clip.units(&table, |r| {
-        totals.take(r.length, r.read);
+        totals.take(r);
         let (place, length, read) = (r.place, r.length, r.read);
         match read.answer {
             1 => {
-                let (slice_type, frame_num) = (read.header.slice_type, read.header.frame.frame_num);
-                let qp = slice_qp(&table, r);
+                let header = r.words.header();
+                let (slice_type, frame_num) = (header.slice_type, header.frame.frame_num);
+                let qp = slice_qp(&table, &header);
                 let name = TYPES[slice_type as usize % 5];
                 writeln!(
                     to,

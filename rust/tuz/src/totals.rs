@@ -1,7 +1,7 @@
 //! Totals over a recording.
 
 use std::fmt;
-use tuzmarghil::raw::ReadOut;
+use tuzmarghil::StreamReport;
 
 /// The names of slice types, modulo 5.
 pub const TYPES: [&str; 5] = ["P", "B", "I", "SP", "SI"];
@@ -17,12 +17,12 @@ pub struct Totals {
 }
 
 impl Totals {
-    pub fn take(&mut self, length: u64, read: &ReadOut) {
+    pub fn take(&mut self, r: &StreamReport<'_>) {
         self.units += 1;
-        self.bytes += length;
-        match read.answer {
+        self.bytes += r.length;
+        match r.read.answer {
             0 => self.others += 1,
-            1 => self.slices[read.header.slice_type as usize % 5] += 1,
+            1 => self.slices[r.words.header().slice_type as usize % 5] += 1,
             2 => self.prefixes += 1,
             _ => self.refused += 1,
         }

@@ -3,7 +3,9 @@
 //! The structs are taken from the Rattle sources by build.rs: nothing is declared twice. What is absent is zero, with its mark `there` clear.
 #![allow(missing_docs)]
 
-pub use crate::words::{whole, List, ListWords, WeightWords, Weights, Words};
+pub use crate::words::{
+    whole, List, ListWords, NumberWords, SignedWords, WeightWords, Weights, Words,
+};
 
 include!(concat!(env!("OUT_DIR"), "/records.rs"));
 
@@ -22,6 +24,8 @@ extern "C" {
         unit_len: usize,
         scratch: *mut u8,
         scratch_len: usize,
+        numbers: *mut NumberWords,
+        signed: *mut SignedWords,
         l0: *mut ListWords,
         l1: *mut ListWords,
         marking: *mut ListWords,
@@ -38,6 +42,8 @@ extern "C" {
         from: usize,
         scratch: *mut u8,
         scratch_len: usize,
+        numbers: *mut NumberWords,
+        signed: *mut SignedWords,
         l0: *mut ListWords,
         l1: *mut ListWords,
         marking: *mut ListWords,
@@ -108,6 +114,14 @@ pub fn put_picture(table: &mut Table, id: u32, set: Picture) -> ChangedOut {
     unsafe { tuz_put_picture(table, id, set) }
 }
 
+/// A call that is lent words, which come last in it.
+macro_rules! lending {
+    ($words:expr, $call:ident($($given:expr),*)) => {{
+        let Words { numbers, signed, l0, l1, marking, w0, w1, base } = $words;
+        $call($($given,)* numbers, signed, l0, l1, marking, w0, w1, base)
+    }};
+}
+
 pub fn read_unit(
     table: &Table,
     unit: &[u8],
@@ -118,16 +132,8 @@ pub fn read_unit(
     let (q, p) = (&table.sequences, &table.pictures);
     let (u, un) = (unit.as_ptr(), unit.len());
     let (s, sn) = (scratch.as_mut_ptr(), scratch.len());
-    let Words {
-        l0,
-        l1,
-        marking,
-        w0,
-        w1,
-        base,
-    } = words;
     // SAFETY: each pointer and length is that of a live slice, the arrays live through the call and lie apart, and it requires nothing.
-    unsafe { tuz_read_unit(out, q, p, u, un, s, sn, l0, l1, marking, w0, w1, base) }
+    unsafe { lending!(words, tuz_read_unit(out, q, p, u, un, s, sn)) }
 }
 
 pub fn walk(
@@ -141,16 +147,8 @@ pub fn walk(
     let (q, p) = (&table.sequences, &table.pictures);
     let (r, rn) = (recording.as_ptr(), recording.len());
     let (s, sn) = (scratch.as_mut_ptr(), scratch.len());
-    let Words {
-        l0,
-        l1,
-        marking,
-        w0,
-        w1,
-        base,
-    } = words;
     // SAFETY: each pointer and length is that of a live slice, the arrays live through the call and lie apart, and it requires nothing.
-    unsafe { tuz_walk(out, q, p, r, rn, from, s, sn, l0, l1, marking, w0, w1, base) }
+    unsafe { lending!(words, tuz_walk(out, q, p, r, rn, from, s, sn)) }
 }
 
 pub fn write_header(

@@ -72,7 +72,7 @@ impl Unit {
             1 => Ok(Unit::Slice(Box::new(Slice {
                 nal_header: NalHeader::from_byte(first),
                 extension: NalHeaderExtension::of_unit(unit),
-                header: SliceHeader::from_raw(&out.header, words),
+                header: SliceHeader::from_raw(&words.header(), words),
                 bits: out.bits,
             }))),
             2 => Ok(Unit::Prefix(PrefixNalUnit::from_raw(

@@ -146,40 +146,36 @@ fn prefix_unit() -> Vec<u8> {
     b.unit(&[0x6E, 0xD2, 0xA9, 0x74])
 }
 
-/// The entries of a list or of weights as they stand in words, which are zeros elsewhere.
-fn list(entries: &[(u32, u32, u32)]) -> raw::ListWords {
-    let mut words = [0; 198];
-    for (i, (code, first, second)) in entries.iter().enumerate() {
-        (words[i], words[66 + i], words[132 + i]) = (*code, *first, *second);
-    }
-    words
+/// Entries of a list or of weights, over the front of words.
+fn put<T: Copy, const N: usize>(words: &mut [T], entries: &[[T; N]]) {
+    let entries = entries.concat();
+    words[..entries.len()].copy_from_slice(&entries);
 }
 
-fn weights(entries: &[[i32; 8]]) -> raw::WeightWords {
-    let mut words = [0; 256];
-    for (i, entry) in entries.iter().enumerate() {
-        words[8 * i..][..8].copy_from_slice(entry);
-    }
-    words
-}
-
-/// The words that `b_field` leaves.
-fn b_field_words() -> raw::Words {
-    raw::Words {
-        l0: list(&[(0, 21, 0), (5, 22, 0)]),
-        l1: list(&[(1, 23, 0), (2, 24, 0), (4, 25, 0)]),
-        marking: list(&[
-            (1, 51, 0),
-            (2, 52, 0),
-            (3, 53, 54),
-            (4, 55, 0),
-            (5, 0, 0),
-            (6, 56, 0),
-        ]),
-        w0: weights(&[[1, -31, 32, 0, 0, 0, 0, 0], [0, 0, 0, 1, 33, -34, 35, -36]]),
-        w1: weights(&[[1, 37, 38, 1, 39, 40, 41, 42]]),
-        base: [0; 198],
-    }
+/// What reading `b_field` does to words.
+fn b_field_words(words: &mut raw::Words) {
+    words.numbers = [
+        41, 6, 77, 5, // the lead
+        0, 0, 300, 1, 1, 1, 1, 0, 0, // frame
+        1, 99, 0, 0, 1, 13, // order count
+        1, 1, 1, 1, 1, 1, 1, 0, // active counts
+        1, 1, 2, 1, 1, 3, // modifications
+        1, 5, 1, 6, 2, 1, // weights
+        0, 0, 0, 0, 1, 1, 6, // marking
+        1, 2, 0, 0, 0, // quantiser
+        1, 3, 1, 1, 1, 11, // filter
+    ];
+    words.signed = [0, 0, 0, -9, 0, -6, 5];
+    put(&mut words.l0, &[[0, 21, 0], [5, 22, 0]]);
+    put(&mut words.l1, &[[1, 23, 0], [2, 24, 0], [4, 25, 0]]);
+    put(&mut words.marking, &[[1, 51, 0], [2, 52, 0], [3, 53, 54]]);
+    put(
+        &mut words.marking[9..],
+        &[[4, 55, 0], [5, 0, 0], [6, 56, 0]],
+    );
+    let (luma, chroma) = ([1, -31, 32, 0, 0, 0, 0, 0], [0, 0, 0, 1, 33, -34, 35, -36]);
+    put(&mut words.w0, &[luma, chroma]);
+    put(&mut words.w1, &[[1, 37, 38, 1, 39, 40, 41, 42]]);
 }
 
 #[test]
@@ -270,13 +266,15 @@ fn fields_arrive() {
     read_unit_raw(&table, &unit, &mut scratch, &mut words, &mut out);
     assert_eq!(
         slice.header.to_raw(&table),
-        Ok(raw::whole(&out.header, &words))
+        Ok(raw::whole(&words.header(), &words))
     );
 }
 
-/// Words that hold something everywhere, so that it shows what a reading leaves there.
+/// Words that hold something everywhere, so that it shows what a reading does to them.
 fn full() -> raw::Words {
     raw::Words {
+        numbers: [5; 57],
+        signed: [-5; 7],
         l0: [7; 198],
         l1: [8; 198],
         marking: [9; 198],
@@ -286,46 +284,37 @@ fn full() -> raw::Words {
     }
 }
 
-/// Units of every answer, with the answer and the words that go with it.
-fn answers(slice: &[u8]) -> [(Vec<u8>, u32, raw::Words); 5] {
-    let none = raw::Words::default();
-    let of_prefix = raw::Words {
-        base: list(&[(1, 61, 0), (2, 62, 0)]),
-        ..none.clone()
-    };
+/// Units of every answer, with the answer and what reading does to words.
+fn answers(slice: &[u8]) -> [(Vec<u8>, u32, fn(&mut raw::Words)); 5] {
+    let cleared = |words: &mut raw::Words| *words = raw::Words::default();
+    let of_prefix = |words: &mut raw::Words| put(&mut words.base, &[[1, 61, 0], [2, 62, 0]]);
     // its bits run out after all lists are read
     let torn = slice[..slice.len() - 3].to_vec();
     [
-        (slice.to_vec(), 1, b_field_words()),
+        (slice.to_vec(), 1, b_field_words),
         (prefix_unit(), 2, of_prefix),
-        (torn, 3, none.clone()),
-        (vec![0x09, 0xF0], 0, none.clone()),
-        (vec![], 3, none),
+        (torn, 3, cleared),
+        (vec![0x09, 0xF0], 0, |_| {}),
+        (vec![], 3, cleared),
     ]
 }
 
-/// Words hold what belongs to the answer and zeros elsewhere, whatever they held before.
+/// A slice writes its fields and the entries of its lists, a prefix unit the entries of its own; other words stay as they were, but a refusal clears all.
 #[test]
 fn words_arrive() {
     let (table, slice, ..) = b_field();
     let (mut scratch, mut out) = (vec![0; slice.len()], raw::ReadOut::default());
-    for (unit, answer, want) in answers(&slice) {
-        let mut words = full();
+    for (unit, answer, change) in answers(&slice) {
+        let (mut words, mut want) = (full(), full());
+        change(&mut want);
         read_unit_raw(&table, &unit, &mut scratch, &mut words, &mut out);
         assert_eq!((out.answer, &words), (answer, &want));
-        let (h, p) = (&out.header, &out.prefix);
-        let lists = [h.modifications_l0, h.modifications_l1, h.markings];
-        let weights = [h.weights.l0, h.weights.l1];
-        let counts = match answer {
-            1 => ([2, 3, 6], [2, 1], 0),
-            2 => ([0; 3], [0; 2], 2),
-            _ => ([0; 3], [0; 2], 0),
-        };
-        assert_eq!((lists, weights, p.base_markings), counts);
+        let markings = if answer == 2 { 2 } else { 0 };
+        assert_eq!(out.prefix.base_markings, markings);
     }
 }
 
-/// A walk leaves the same words, and so do those who keep words for many units.
+/// A walk does the same to words, and so do those who keep words for many units.
 #[test]
 fn words_of_a_walk() {
     let (table, slice, ..) = b_field();
@@ -344,19 +333,81 @@ fn words_of_a_walk() {
     };
     let mut reports = reports(&table, &recording).unwrap();
     let mut stream = Stream::new(&recording[..]);
-    for (unit, answer, want) in &answers {
-        let words = walk(&mut step, from);
-        assert_eq!((step.step, step.read.answer, &words), (1, *answer, want));
+    let mut kept = raw::Words::default();
+    for (unit, answer, change) in &answers {
+        let (words, mut want) = (walk(&mut step, from), full());
+        change(&mut want);
+        assert_eq!((step.step, step.read.answer, words), (1, *answer, want));
         from = step.next;
         let typed = read_unit(&table, unit, &mut Vec::new());
         assert_eq!(reports.next().unwrap().unit, typed);
         let report = stream.next(&table).unwrap().unwrap();
-        assert_eq!((report.bytes, report.words), (&unit[..], want));
+        change(&mut kept);
+        assert_eq!((report.bytes, report.words), (&unit[..], &kept));
         assert_eq!(*report.read, step.read);
     }
-    let words = walk(&mut step, from);
-    assert_eq!((step.step, words), (0, raw::Words::default()));
+    assert_eq!((walk(&mut step, from), step.step), (full(), 0));
     assert!(reports.next().is_none() && stream.next(&table).unwrap().is_none());
+}
+
+/// What an earlier unit left in words does not show in the records of a later one.
+#[test]
+fn earlier_words_do_not_show() {
+    let (table, earlier, ..) = b_field();
+    let mut b = Bits::default();
+    b.ue(0).ue(1).ue(77).u(9, 1).u(1, 0).u(7, 2).ue(0).u(1, 0); // B, a frame
+    b.u(1, 0).u(1, 0).u(1, 0); // default counts, no modifications
+    b.ue(0).ue(0).u(1, 0).u(1, 0).u(1, 0).u(1, 0); // one reference in each list, without weights
+    b.u(1, 0).ue(0).se(0).ue(1).u(4, 0).u(8, 0xFF); // sliding window, and the rest
+    let b_frame = b.unit(&[0x21]);
+    let mut b = Bits::default();
+    b.ue(0).ue(2).ue(77).u(9, 1).u(1, 0).u(7, 2).ue(0); // I, no reference
+    b.se(0).ue(1).u(4, 0).u(8, 0xFF);
+    let i_frame = b.unit(&[0x01]);
+    let mut b = Bits::default();
+    b.u(1, 0).u(1, 0);
+    let bare_prefix = b.unit(&[0x6E, 0xD2, 0xA9, 0x74]);
+
+    let (mut scratch, mut out) = (vec![0; earlier.len()], raw::ReadOut::default());
+    let mut headers = vec![];
+    for unit in [b_frame, i_frame, bare_prefix] {
+        let (mut kept, mut fresh) = (full(), raw::Words::default());
+        for before in [&earlier, &prefix_unit()] {
+            read_unit_raw(&table, before, &mut scratch, &mut kept, &mut out);
+        }
+        read_unit_raw(&table, &unit, &mut scratch, &mut kept, &mut out);
+        let told = Unit::from_raw(&unit, &out, &kept);
+        read_unit_raw(&table, &unit, &mut scratch, &mut fresh, &mut out);
+        assert_eq!(told, Unit::from_raw(&unit, &out, &fresh));
+        match told {
+            Ok(Unit::Slice(slice)) => {
+                let whole = raw::whole(&kept.header(), &kept);
+                assert_eq!(whole, raw::whole(&fresh.header(), &fresh));
+                assert_eq!(slice.header.to_raw(&table), Ok(whole));
+                headers.push(slice.header);
+            }
+            Ok(Unit::Prefix(prefix)) => {
+                let body = prefix.ref_base_pic.unwrap();
+                assert_eq!(body.dec_ref_base_pic_marking, None);
+            }
+            other => panic!("{other:?}"),
+        }
+    }
+    let (b, i) = (&headers[0], &headers[1]);
+    let without = RefPicListModifications::B {
+        ref_pic_list_modification_l0: None,
+        ref_pic_list_modification_l1: None,
+    };
+    assert_eq!(b.ref_pic_list_modification, without);
+    let weights = b.pred_weight_table.as_ref().unwrap();
+    assert_eq!(weights.luma_weights, [None]);
+    assert_eq!(weights.chroma_weights, [vec![]]);
+    assert_eq!(b.dec_ref_pic_marking, Some(DecRefPicMarking::SlidingWindow));
+    assert_eq!(i.ref_pic_list_modification, RefPicListModifications::I);
+    assert_eq!(
+        (&i.pred_weight_table, &i.dec_ref_pic_marking),
+        (&None, &None)
+    );
 }
 
 #[test]
