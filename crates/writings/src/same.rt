@@ -204,27 +204,17 @@ fn lead(a: SliceHeader, b: SliceHeader) -> bool {
     )
 }
 
-fn front(a: SliceHeader, b: SliceHeader) -> bool {
-    let f = frame(a.frame, b.frame);
-    let o = order_count(a.order_count, b.order_count);
-    let c = active_counts(a.active_counts, b.active_counts);
-    both(lead(a, b), both(f, both(o, c)))
-}
-
-fn middle(a: SliceHeader, b: SliceHeader) -> bool {
-    let m = modifications(a.modifications, b.modifications);
-    let w = pred_weight_table(a.pred_weight_table, b.pred_weight_table);
-    let d = marking(a.dec_ref_pic_marking, b.dec_ref_pic_marking);
-    both(m, both(w, d))
-}
-
-fn back(a: SliceHeader, b: SliceHeader) -> bool {
-    both(
-        quantiser(a.quantiser, b.quantiser),
-        filter(a.filter, b.filter),
-    )
-}
-
 pub(crate) fn header(a: SliceHeader, b: SliceHeader) -> bool {
-    both(front(a, b), both(middle(a, b), back(a, b)))
+    let lead = lead(a, b);
+    let frame = frame(a.frame, b.frame);
+    let order = order_count(a.order_count, b.order_count);
+    let counts = active_counts(a.active_counts, b.active_counts);
+    let lists = modifications(a.modifications, b.modifications);
+    let weights = pred_weight_table(a.pred_weight_table, b.pred_weight_table);
+    let marking = marking(a.dec_ref_pic_marking, b.dec_ref_pic_marking);
+    let quantiser = quantiser(a.quantiser, b.quantiser);
+    let filter = filter(a.filter, b.filter);
+    let front = both(lead, both(frame, both(order, counts)));
+    let middle = both(lists, both(weights, marking));
+    both(front, both(middle, both(quantiser, filter)))
 }
