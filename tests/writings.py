@@ -1,12 +1,12 @@
 #!/usr/bin/env python3
-"""What crates/writings must print: each record written bit by bit as document 01 has the header, with no line of the library, and the unit that it makes read by
-the model in document01.py.
+"""The records that crates/writings writes, and what it must print: each record written bit by bit as document 01 has the header, with no line of the library, and
+the unit that it makes read by the model in document01.py.
 
-writings.py           compares with crates/writings/stdout, and exits non-zero where they differ
-writings.py --write   writes that file
-The cases are those of crates/writings/src, in its order.
+writings.py           compares with crates/writings/stdin and crates/writings/stdout, and exits non-zero where they differ
+writings.py --write   writes these files
 """
 import copy
+import itertools
 import zlib
 
 from codes import escaped, packed, se, u, ue
@@ -234,10 +234,46 @@ def read_back(first, extension, r, bits):
     return "same" if kind == "slice" and got == words(r, len(bits)) else "other"
 
 
-lines = []
+# Where the fields stand in crates/writings/src/words.rt.
+SLOTS = (
+    "first_mb_in_slice slice_type pic_parameter_set_id seq_parameter_set_id colour_plane_id frame_num field_pic_flag bottom_field_flag idr_pic_id"
+    " pic_order_cnt_lsb delta_pic_order_cnt_bottom delta_0 delta_1 redundant_pic_cnt direct_spatial_mv_pred_flag num_ref_idx_active_override_flag"
+    " num_ref_idx_l0_active_minus1 num_ref_idx_l1_active_minus1 flag_l0 flag_l1 luma_log2_weight_denom chroma_log2_weight_denom"
+    " no_output_of_prior_pics_flag long_term_reference_flag adaptive_ref_pic_marking_mode_flag cabac_init_idc slice_qp_delta sp_for_switch_flag"
+    " slice_qs_delta disable_deblocking_filter_idc slice_alpha_c0_offset_div2 slice_beta_offset_div2 slice_group_change_cycle mods_l0 mods_l1 mmco"
+    " weights_l0 weights_l1"
+).split()
+COLUMNS = {"mods_l0": (40, 66), "mods_l1": (238, 66), "mmco": (436, 66), "weights_l0": (640, 32), "weights_l1": (896, 32)}
+
+
+def changes(r):
+    """What makes the record of one that holds nothing: a slot, how many slots from there on, a mark and a value."""
+    mark, first, second = r["delta_pic_order_cnt"]
+    yield SLOTS.index("delta_0"), 1, mark, first
+    yield SLOTS.index("delta_1"), 1, mark, second
+    for name in SLOTS:
+        if name in MARKED:
+            yield SLOTS.index(name), 1, *r[name]
+        elif name in COLUMNS:
+            start, length = COLUMNS[name]
+            count, entries = r[name]
+            yield SLOTS.index(name), 1, 0, count
+            for column, values in enumerate(zip(*entries)):
+                at = start + column * length
+                for value, alike in itertools.groupby(values):
+                    times = len(list(alike))
+                    yield at, times, 0, value
+                    at += times
+        elif name in r:
+            yield SLOTS.index(name), 1, 0, r[name]
+
+
+cases, lines = [], []
 
 
 def shown(name, first, r, extension=None, room=6144):
+    made = [",".join(map(str, c)) for c in changes(r) if c[2:] != (0, 0)]
+    cases.append(f"{name}:{first},{int(extension is not None)},{extension[0] if extension else 0},{room},{len(made)} {' '.join(made)}")
     try:
         bits = header(first, extension, r, room)
     except Refused as x:
@@ -398,4 +434,5 @@ def rooms():
 
 for part in fields, long, refused, bad_fields, bad_lists, rooms:
     part()
+hold("writings", [str(len(cases))] + cases, "stdin")
 hold("writings", lines)

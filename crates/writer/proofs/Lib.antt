@@ -1,5 +1,5 @@
-pub mod Fields
 pub mod Stages
+pub mod Fields
 pub mod Unused
 pub mod OperationLoop
 pub mod WeightLoop

@@ -5,22 +5,22 @@ use mathlib.Core.List.{List, [], _∷_}
 use mathlib.Core.Bool.{Bool, true, false, _&&_}
 use native.Mathlib.Omega.{arith}
 use native.Mathlib.Numerals.{add-one}
+use native.Mathlib.Decide.{decLt}
 use lib.Dec.{T, leb}
 use lib.IntN.{pos}
 use lib.ListN.{length, take, drop, getD}
 use lib.Seq.{getD-take}
 use borrow.Author.Tests.{eq-eqb, ne-eqb}
-use Rattle.bits.specs.declared.refusals.Refusal.{Refusal}
 use Rattle.bits.specs.declared.read.Cursor.{Cursor}
 use Rattle.bits.specs.declared.put.Wrote.{Wrote}
-use Rattle.bits.specs.declared.put.Wrote.the-variants.{At, Refused}
+use Rattle.bits.specs.declared.put.Wrote.the-variants.{Refused}
 use Rattle.fmt.specs.Fmt.{test, until}
 use Rattle.fmt.specs.Leaves.{ue}
 use Rattle.fmt.specs.Arrays.{padded}
 use Rattle.fmt.specs.Put.{Put}
 use Rattle.fmt.proofs.Lawful.{both-0, both-1, T-true}
 use Rattle.fmt.proofs.Arrays.{length-unpad}
-use Rattle.fmt.proofs.Puts.{answered, stopped, not-good, shaped-put, shaped-none}
+use Rattle.fmt.proofs.Puts.{Stopped, stopped, shaped-put, shaped-none}
 use Rattle.fmt.proofs.PutLoops.{Ahead, ahead-none, ahead-closed, ahead-closes, ahead-stop, ahead-stop-operand, ahead-next}
 use Rattle.syntax.specs.declared.record.Operations.{Operations}
 use Rattle.syntax.specs.Marks.{isZero}
@@ -28,6 +28,8 @@ use Rattle.syntax.specs.Lists.{Kind, entries, Operation, joined, ofOperations, 
 use Rattle.syntax.proofs.Operations.{few-operations, length-of-operations}
 use Rattle.lists.specs.declared.operations.ListKind.{ListKind}
 use Rattle.lists.specs.Kinds.{kindOf}
+use Rattle.writer.specs.Places.{nowhere, PutTo}
+use Rattle.writer.proofs.Stages.{refused, leads, done-at, stopped-at, from-nowhere, leads-nowhere, Loop, going, over}
 
 -- ---- an entry of a list in its three arrays
 
@@ -74,64 +76,82 @@ module _ (kind : ListKind) (o : Operations) (d : List ℕ) (at : ℕ) where
   abbrev format : Kind
   format = kindOf kind
 
+  abbrev Along : ℕ → List ℕ → ℕ → Type 0
+  Along = Ahead (code format) (kind .closing) (operands format) entries (ofOperations o) d at
+
   -- the first i entries have been written, dᵢ is the buffer, and the next place is e
   pub record Listing (i : ℕ) (dᵢ : List ℕ) (e : ℕ) : Type 0 where
     pub tidy : T (okOperations o)
-    pub along : Ahead (code format) (kind .closing) (operands format) entries (ofOperations o) d at i dᵢ e
+    pub along : Loop (operations format) o d at (Along i dᵢ e) e
 
   pub listing-none : okOperations o ≡ true → Listing 0 d at
-  listing-none t = record { tidy = subst⁻¹ T t tt; along = ahead-none (code format) (kind .closing) (operands format) entries (ofOperations o) d at }
+  listing-none t =
+      record { tidy = subst⁻¹ T t tt; along = going (ahead-none (code format) (kind .closing) (operands format) entries (ofOperations o) d at) }
 
-  pub untidy : okOperations o ≡ false → {d' : List ℕ} {q : Refusal} → Put (operations format) o d at d' (Refused q)
+  pub untidy : okOperations o ≡ false → {d' : List ℕ} → PutTo (operations format) o d at d' (record { at = nowhere })
   unfolding operations
-  untidy t = not-good _ o (shaped-none _ _ _ _ o t)
+  untidy t = leads-nowhere _ o (shaped-none _ _ _ _ o t)
 
   whole : T (okOperations o) → (d' : List ℕ) (r : Wrote) → Put (until (code format) (kind .closing) (operands format) entries) (ofOperations o) d at d' r
       → Put (operations format) o d at d' r
   unfolding operations
   whole t d' r = shaped-put _ _ _ _ o (T-true (okOperations o) t)
 
-  module _ {i : ℕ} {dᵢ : List ℕ} {e : ℕ} (a : Listing i dᵢ e) where
-    pub listing-closed : o .count ≤ i → {d' : List ℕ} {r : Wrote} → Put (test (λ v. leb v (kind .greatest)) (kind .number) pos ue) (kind .closing) dᵢ e d' r
-        → Put (operations format) o d at d' r
+  -- a refusal of the whole
+  halted : T (okOperations o) → Put (until (code format) (kind .closing) (operands format) entries) (ofOperations o) d at d (Refused refused)
+      → Stopped (operations format) o d at
+  halted t p = stopped (Refused refused) refl (whole t d (Refused refused) p)
+
+  module _ {i : ℕ} {dᵢ : List ℕ} {e : ℕ} where
+    pub listing-closed : Listing i dᵢ e → o .count ≤ i → {d' : List ℕ} {c : Cursor}
+        → PutTo (test (λ v. leb v (kind .greatest)) (kind .number) pos ue) (kind .closing) dᵢ e d' c → PutTo (operations format) o d at d' c
     unfolding code
-    listing-closed h p =
-        whole (a .tidy) _ _
-        (ahead-closed (code format) (kind .closing) (operands format) entries (ofOperations o) d at (a .along) (omega (arith, length-of-operations o (a .tidy))) _ _ p)
+    listing-closed a h {d'} {c} p = go (a .along)
+      where
+        go : Loop (operations format) o d at (Along i dᵢ e) e → PutTo (operations format) o d at d' c
+        go (going l) =
+            record {
+              put = whole (a .tidy) _ _
+                  (ahead-closed (code format) (kind .closing) (operands format) entries (ofOperations o) d at l (omega (arith, length-of-operations o (a .tidy)))
+                  _ _ (p .put));
+            }
+        go (over k s) = leads c (from-nowhere c k p) s
 
-    module _ (h : i < o .count) where
-      pub listing-closes : getD (o .codes) i 0 ≡ kind .closing → {d' : List ℕ} {q : Refusal} → Put (operations format) o d at d' (Refused q)
-      listing-closes z =
-          whole (a .tidy) _ _
-          (ahead-closes (code format) (kind .closing) (operands format) entries (ofOperations o) d at (a .along) (entryAt o i) (operation-at o (a .tidy) i h) _ _
-          (eq-eqb (getD (o .codes) i 0) (kind .closing) z))
+    module _ (a : Listing i dᵢ e) (h : i < o .count) where
+      pub listing-closes : getD (o .codes) i 0 ≡ kind .closing → {d' : List ℕ} → PutTo (operations format) o d at d' (record { at = nowhere })
+      listing-closes z = leads (record { at = nowhere }) (omega arith) (go (a .along))
+        where
+          go : Loop (operations format) o d at (Along i dᵢ e) e → Stopped (operations format) o d at
+          go (going l) =
+              halted (a .tidy)
+              (ahead-closes (code format) (kind .closing) (operands format) entries (ofOperations o) d at l (entryAt o i) (operation-at o (a .tidy) i h) refused d
+              (eq-eqb (getD (o .codes) i 0) (kind .closing) z))
+          go (over k s) = s
 
-      module _ (z : getD (o .codes) i 0 ≡ kind .closing → ⊥) {d₁ : List ℕ} {r₁ : Wrote}
-          (p : Put (test (λ v. leb v (kind .greatest)) (kind .number) pos ue) (getD (o .codes) i 0) dᵢ e d₁ r₁) where
-        pub listing-stop : {x : Refusal} → r₁ ≡ Refused x → Put (operations format) o d at d₁ r₁
-        unfolding code
-        listing-stop {x} q =
-            rw q
-            (whole (a .tidy) d₁ (Refused x)
-            (ahead-stop (code format) (kind .closing) (operands format) entries (ofOperations o) d at (a .along) (entryAt o i) (operation-at o (a .tidy) i h)
-            (ne-eqb (getD (o .codes) i 0) (kind .closing) z) (omega (arith, few-operations o (a .tidy))) x (stopped r₁ q p) d₁))
-
-        module _ {c₁ : Cursor} (q : r₁ ≡ At c₁) {d₂ : List ℕ} {r₂ : Wrote}
-            (p₂ : Put (operands format (getD (o .codes) i 0)) (getD (o .first) i 0, getD (o .second) i 0) d₁ (c₁ .at) d₂ r₂) where
-          pub listing-stop-operand : {x : Refusal} → r₂ ≡ Refused x → Put (operations format) o d at d₂ r₂
-          unfolding code
-          listing-stop-operand {x} q₂ =
-              rw q₂
-              (whole (a .tidy) d₂ (Refused x)
-              (ahead-stop-operand (code format) (kind .closing) (operands format) entries (ofOperations o) d at (a .along) (entryAt o i) (operation-at o (a .tidy) i h)
-              (ne-eqb (getD (o .codes) i 0) (kind .closing) z) (omega (arith, few-operations o (a .tidy))) (answered r₁ q p) x (stopped r₂ q₂ p₂) d₂))
-
-          pub listing-next : {c₂ : Cursor} → r₂ ≡ At c₂ → Listing (i + 1) d₂ (c₂ .at)
-          unfolding code
-          listing-next q₂ =
-              record {
-                tidy = a .tidy;
-                along = ahead-next (code format) (kind .closing) (operands format) entries (ofOperations o) d at (a .along) (entryAt o i)
-                    (operation-at o (a .tidy) i h) (ne-eqb (getD (o .codes) i 0) (kind .closing) z) (omega (arith, few-operations o (a .tidy))) (answered r₁ q p)
-                    (answered r₂ q₂ p₂);
-              }
+      pub listing-next : (getD (o .codes) i 0 ≡ kind .closing → ⊥) → {d₁ : List ℕ} {c₁ : Cursor}
+          → PutTo (test (λ v. leb v (kind .greatest)) (kind .number) pos ue) (getD (o .codes) i 0) dᵢ e d₁ c₁ → {d₂ : List ℕ} {c₂ : Cursor}
+          → PutTo (operands format (getD (o .codes) i 0)) (getD (o .first) i 0, getD (o .second) i 0) d₁ (c₁ .at) d₂ c₂ → Listing (i + 1) d₂ (c₂ .at)
+      unfolding code
+      listing-next z {d₁} {c₁} p {d₂} {c₂} q = record { tidy = a .tidy; along = go (a .along) (decLt (c₁ .at) nowhere) (decLt (c₂ .at) nowhere) }
+        where
+          go : Loop (operations format) o d at (Along i dᵢ e) e → Dec (c₁ .at < nowhere) → Dec (c₂ .at < nowhere)
+              → Loop (operations format) o d at (Along (i + 1) d₂ (c₂ .at)) (c₂ .at)
+          go (over k s) y x = over (from-nowhere c₂ (from-nowhere c₁ k p) q) s
+          go (going l) (no y) x =
+              let k : nowhere ≤ c₁ .at = omega arith in
+              over (from-nowhere c₂ k q)
+              (halted (a .tidy)
+              (ahead-stop (code format) (kind .closing) (operands format) entries (ofOperations o) d at l (entryAt o i) (operation-at o (a .tidy) i h)
+              (ne-eqb (getD (o .codes) i 0) (kind .closing) z) (omega (arith, few-operations o (a .tidy))) refused (stopped-at c₁ k p) d))
+          go (going l) (yes y) (no x) =
+              let k : nowhere ≤ c₂ .at = omega arith in
+              over k
+              (halted (a .tidy)
+              (ahead-stop-operand (code format) (kind .closing) (operands format) entries (ofOperations o) d at l (entryAt o i) (operation-at o (a .tidy) i h)
+              (ne-eqb (getD (o .codes) i 0) (kind .closing) z) (omega (arith, few-operations o (a .tidy))) (done-at c₁ y p) refused
+              (stopped-at c₂ k q) d))
+          go (going l) (yes y) (yes x) =
+              going
+              (ahead-next (code format) (kind .closing) (operands format) entries (ofOperations o) d at l (entryAt o i) (operation-at o (a .tidy) i h)
+              (ne-eqb (getD (o .codes) i 0) (kind .closing) z) (omega (arith, few-operations o (a .tidy))) (done-at c₁ y p)
+              (done-at c₂ x q))

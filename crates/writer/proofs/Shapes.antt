@@ -13,13 +13,17 @@ use Rattle.syntax.specs.declared.context.Context.{Context}
 use Rattle.syntax.specs.declared.marks.MarkedNumber.{MarkedNumber}
 use Rattle.syntax.specs.Marks.{isZero, numberIf}
 use Rattle.syntax.specs.SliceHeader.{notScalable}
+use Rattle.writer.specs.Places.{PutTo}
 
 -- a number with its mark, without the record's shape
-pub number-when : (b : Bool) (F : Fmt ℕ) (m : MarkedNumber) {d : List ℕ} {at : ℕ} {d' : List ℕ} {r : Wrote} → Put (numberIf b F) m d at d' r
-    → Put (when b 0 isZero F) (record { there = m .there; value = m .value }) d at d' r
+pub number-when : (b : Bool) (F : Fmt ℕ) (m : MarkedNumber) {d : List ℕ} {at : ℕ} {d' : List ℕ} {c : Cursor} → PutTo (numberIf b F) m d at d' c
+    → PutTo (when b 0 isZero F) (record { there = m .there; value = m .value }) d at d' c
 unfolding numberIf shaped
-number-when b F m (done c g p n) = done c g p n
-number-when b F m (none x h) = none x h
+number-when b F m {d} {at} {d'} p = record { put = go (p .put) }
+  where
+    go : {r : Wrote} → Put (numberIf b F) m d at d' r → Put (when b 0 isZero F) (record { there = m .there; value = m .value }) d at d' r
+    go (done c g p n) = done c g p n
+    go (none x h) = none x h
 
 -- a slice that is not scalable goes on where it was
 pub not-scalable : (x : Context) → x .kind .svc ≡ false → (d : List ℕ) (c : Cursor) → Done (notScalable x) tt d (c .at) d c

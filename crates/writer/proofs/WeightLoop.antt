@@ -1,29 +1,31 @@
 -- The loop that writes a list of weights: what holds when the first i entries have been written, what a turn adds, and what each way out shows.
 use Prim.Native.Nat.{ℕ, _+_, _≤_, _<_}
-use mathlib.Core.Path.{_≡_, sym, _∙_, subst, subst⁻¹}
+use mathlib.Core.Path.{_≡_, refl, sym, _∙_, subst, subst⁻¹}
 use mathlib.Core.List.{List, _∷_}
 use mathlib.Core.Bool.{Bool, true, false, _&&_}
 use native.Mathlib.Omega.{arith}
 use native.Mathlib.Numerals.{add-one}
+use native.Mathlib.Decide.{decLt}
 use lib.Dec.{T, eqb}
 use lib.ListN.{length, take, drop, getD}
 use lib.Seq.{drop-cons, getD-take}
 use borrow.Author.Tests.{eq-eqb, eqb-true}
-use Rattle.bits.specs.declared.refusals.Refusal.{Refusal}
 use Rattle.bits.specs.declared.read.Cursor.{Cursor}
 use Rattle.bits.specs.declared.put.Wrote.{Wrote}
 use Rattle.bits.specs.declared.put.Wrote.the-variants.{At, Refused}
 use Rattle.fmt.specs.Fmt.{shaped, times}
 use Rattle.fmt.specs.Arrays.{padded}
-use Rattle.fmt.specs.Put.{Put, none}
+use Rattle.fmt.specs.Put.{Put}
 use Rattle.fmt.proofs.Lawful.{both-0, both-1, both-T, T-true}
 use Rattle.fmt.proofs.Arrays.{padded-le, length-unpad}
 use Rattle.fmt.proofs.Lists.{times-length}
-use Rattle.fmt.proofs.Puts.{answered, stopped, shaped-put}
+use Rattle.fmt.proofs.Puts.{stopped, shaped-put}
 use Rattle.fmt.proofs.PutLoops.{CountedAhead, counted-none, counted-all, counted-stop, counted-next}
 use Rattle.syntax.specs.declared.record.Weight.{Weight}
 use Rattle.syntax.specs.declared.record.WeightList.{WeightList}
 use Rattle.syntax.specs.SliceHeader.{weight, isNoWeight, weightList}
+use Rattle.writer.specs.Places.{nowhere, PutTo}
+use Rattle.writer.proofs.Stages.{refused, leads, told, done-at, stopped-at, from-nowhere, Loop, going, over}
 
 module _ (chroma : Bool) (n : ℕ) (w : WeightList) (d : List ℕ) (at : ℕ) where
   abbrev used : List Weight
@@ -38,7 +40,7 @@ module _ (chroma : Bool) (n : ℕ) (w : WeightList) (d : List ℕ) (at : ℕ) wh
     pub count : w .count ≡ n
     pub tidy : T (padded isNoWeight 32 (w .count) (w .entries))
     pub size : length used ≡ n
-    pub along : CountedAhead (weight chroma) n used d at i dᵢ e
+    pub along : Loop (weightList chroma n) w d at (CountedAhead (weight chroma) n used d at i dᵢ e) e
 
   pub weighing-none : fitting ≡ true → Weighing 0 d at
   weighing-none h =
@@ -49,18 +51,20 @@ module _ (chroma : Bool) (n : ℕ) (w : WeightList) (d : List ℕ) (at : ℕ) wh
         count = k;
         tidy = p;
         size = length-unpad isNoWeight 32 (w .count) (w .entries) p ∙ k;
-        along = counted-none (weight chroma) n used d at;
+        along = going (counted-none (weight chroma) n used d at);
       }
 
-  pub unfitting : fitting ≡ false → {d' : List ℕ} {q : Refusal} → Put (weightList chroma n) w d at d' (Refused q)
+  pub unfitting : fitting ≡ false → {d' : List ℕ} → PutTo (weightList chroma n) w d at d' (record { at = nowhere })
   unfolding weightList shaped
   unfitting h =
-      none _
-      (λ t.
-      let p = both-0 (padded isNoWeight 32 (w .count) (w .entries)) (times n (weight chroma) .good used) t in
-      let g = both-1 (padded isNoWeight 32 (w .count) (w .entries)) (times n (weight chroma) .good used) t in
-      let k = sym (length-unpad isNoWeight 32 (w .count) (w .entries) p) ∙ times-length (weight chroma) n used g in
-      absurd (subst T h (both-T (eqb (w .count) n) (padded isNoWeight 32 (w .count) (w .entries)) (subst⁻¹ T (eq-eqb (w .count) n k) tt) p)))
+      leads (record { at = nowhere }) (omega arith)
+      (record {
+        no-room = λ t.
+            let p = both-0 (padded isNoWeight 32 (w .count) (w .entries)) (times n (weight chroma) .good used) t in
+            let g = both-1 (padded isNoWeight 32 (w .count) (w .entries)) (times n (weight chroma) .good used) t in
+            let k = sym (length-unpad isNoWeight 32 (w .count) (w .entries) p) ∙ times-length (weight chroma) n used g in
+            absurd (subst T h (both-T (eqb (w .count) n) (padded isNoWeight 32 (w .count) (w .entries)) (subst⁻¹ T (eq-eqb (w .count) n k) tt) p));
+      })
 
   whole : T (padded isNoWeight 32 (w .count) (w .entries)) → (d' : List ℕ) (r : Wrote) → Put (times n (weight chroma)) used d at d' r
       → Put (weightList chroma n) w d at d' r
@@ -71,8 +75,12 @@ module _ (chroma : Bool) (n : ℕ) (w : WeightList) (d : List ℕ) (at : ℕ) wh
     pub weighing-few : n ≤ 32
     weighing-few = omega (arith, padded-le isNoWeight 32 (w .count) (w .entries) (a .tidy) .0, a .count)
 
-    pub weighing-all : n ≤ i → Put (weightList chroma n) w d at dᵢ (At (record { at = e }))
-    weighing-all h = whole (a .tidy) _ _ (counted-all (weight chroma) n used d at (a .along) (omega (arith, a .size)) h)
+    pub weighing-all : n ≤ i → PutTo (weightList chroma n) w d at dᵢ (record { at = e })
+    weighing-all h = go (a .along)
+      where
+        go : Loop (weightList chroma n) w d at (CountedAhead (weight chroma) n used d at i dᵢ e) e → PutTo (weightList chroma n) w d at dᵢ (record { at = e })
+        go (going l) = told (At (record { at = e })) (whole (a .tidy) _ _ (counted-all (weight chroma) n used d at l (omega (arith, a .size)) h))
+        go (over k s) = leads (record { at = e }) k s
 
     module _ (h : i < n) (z : Weight) where
       entry : drop i used ≡ getD (w .entries) i z ∷ drop (i + 1) used
@@ -81,16 +89,15 @@ module _ (chroma : Bool) (n : ℕ) (w : WeightList) (d : List ℕ) (at : ℕ) wh
           let k : i < w .count = omega (arith, a .count) in
           rw (add-one i, ← getD-take (w .count) (w .entries) i z k) (drop-cons used i z m)
 
-      module _ {d₁ : List ℕ} {r₁ : Wrote} (p : Put (weight chroma) (getD (w .entries) i z) dᵢ e d₁ r₁) where
-        pub weighing-stop : {x : Refusal} → r₁ ≡ Refused x → Put (weightList chroma n) w d at d₁ r₁
-        weighing-stop {x} q =
-            rw q (whole (a .tidy) d₁ (Refused x) (counted-stop (weight chroma) n used d at (a .along) (getD (w .entries) i z) entry h x (stopped r₁ q p) d₁))
-
-        pub weighing-next : {c₁ : Cursor} → r₁ ≡ At c₁ → Weighing (i + 1) d₁ (c₁ .at)
-        weighing-next q =
-            record {
-              count = a .count;
-              tidy = a .tidy;
-              size = a .size;
-              along = counted-next (weight chroma) n used d at (a .along) (getD (w .entries) i z) entry h (answered r₁ q p);
-            }
+      pub weighing-next : {d₁ : List ℕ} {c : Cursor} → PutTo (weight chroma) (getD (w .entries) i z) dᵢ e d₁ c → Weighing (i + 1) d₁ (c .at)
+      weighing-next {d₁} {c} p = record { count = a .count; tidy = a .tidy; size = a .size; along = go (a .along) (decLt (c .at) nowhere) }
+        where
+          go : Loop (weightList chroma n) w d at (CountedAhead (weight chroma) n used d at i dᵢ e) e → Dec (c .at < nowhere)
+              → Loop (weightList chroma n) w d at (CountedAhead (weight chroma) n used d at (i + 1) d₁ (c .at)) (c .at)
+          go (over k s) y = over (from-nowhere c k p) s
+          go (going l) (yes y) = going (counted-next (weight chroma) n used d at l (getD (w .entries) i z) entry h (done-at c y p))
+          go (going l) (no y) =
+              let k : nowhere ≤ c .at = omega arith in
+              over k
+              (stopped (Refused refused) refl
+              (whole (a .tidy) d (Refused refused) (counted-stop (weight chroma) n used d at l (getD (w .entries) i z) entry h refused (stopped-at c k p) d)))

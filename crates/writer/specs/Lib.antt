@@ -1,3 +1,4 @@
 pub mod Given
 pub mod Write
+pub mod Places
 pub mod Stages

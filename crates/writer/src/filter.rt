@@ -2,7 +2,6 @@
 use crate::marks::put_bits_if;
 use crate::marks::put_offset_if;
 use crate::marks::put_tested_if;
-use bits::put::Wrote;
 use bits::read::Cursor;
 use bits::refusals::ALPHA_OFFSET;
 use bits::refusals::BETA_OFFSET;
@@ -11,27 +10,18 @@ use bits::width::change_cycle_width;
 use codes::conditions::both;
 use syntax::context::Context;
 use syntax::record::Filter;
-ghost use Rattle.fmt.specs.Put.{Put};
 ghost use Rattle.syntax.specs.SliceHeader.{filter};
+ghost use Rattle.writer.specs.Places.{PutTo};
 
-pub(crate) fn put_filter(d: &mut [u8], c: Cursor, x: Context, f: Filter) -> Wrote
-    ensures { λ r. ⌜ Put (filter x) f (now (d .entry)) (c .at) (now (d .exit)) r ⌝ }
+pub(crate) fn put_filter(d: &mut [u8], c: Cursor, x: Context, f: Filter) -> Cursor
+    ensures { λ r. ⌜ PutTo (filter x) f (now (d .entry)) (c .at) (now (d .exit)) r ⌝ }
 {
     let idc = f.disable_deblocking_filter_idc;
     let control = x.picture.deblocking_filter_control_present_flag;
-    let a1 = put_tested_if(d, c, control, idc, 6, DEBLOCKING_IDC);
-    let Wrote::At(c1) = a1 else {
-        return a1;
-    };
+    let c1 = put_tested_if(d, c, control, idc, 6, DEBLOCKING_IDC);
     let offsets = both(idc.there, idc.value != 1);
-    let a2 = put_offset_if(d, c1, offsets, f.slice_alpha_c0_offset_div2, ALPHA_OFFSET);
-    let Wrote::At(c2) = a2 else {
-        return a2;
-    };
-    let a3 = put_offset_if(d, c2, offsets, f.slice_beta_offset_div2, BETA_OFFSET);
-    let Wrote::At(c3) = a3 else {
-        return a3;
-    };
+    let c2 = put_offset_if(d, c1, offsets, f.slice_alpha_c0_offset_div2, ALPHA_OFFSET);
+    let c3 = put_offset_if(d, c2, offsets, f.slice_beta_offset_div2, BETA_OFFSET);
     let rate = x.picture.slice_group_change_rate;
     let width = change_cycle_width(x.sequence.pic_size_in_map_units, rate);
     put_bits_if(d, c3, 0 < rate, f.slice_group_change_cycle, width)

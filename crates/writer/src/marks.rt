@@ -1,9 +1,8 @@
 // Writing a field: as it is, tested, or there only under a condition. Each says which format of syntax/specs it writes. Order and names are those of the
 // crate codes, which reads them.
-use bits::put::Wrote;
+use crate::places::NOWHERE;
+use crate::places::place_of;
 use bits::read::Cursor;
-use bits::refusals::NO_BITS;
-use bits::refusals::refuse;
 use codes::fields::offset_fits;
 use codes::quant::qp_fits;
 use codes::quant::qs_fits;
@@ -19,10 +18,10 @@ ghost use lib.IntN.{pos};
 ghost use Rattle.bits.specs.Refusals.{pick};
 ghost use Rattle.fmt.specs.Fmt.{test};
 ghost use Rattle.fmt.specs.Leaves.{flag, u, ue, se};
-ghost use Rattle.fmt.specs.Put.{Put};
 ghost use Rattle.syntax.specs.Context.{qpFits, qsFits};
 ghost use Rattle.syntax.specs.Marks.{isZero, isZeroZ, numberIf, signedIf, flagIf, given};
 ghost use Rattle.syntax.specs.SliceHeader.{offsetFits};
+ghost use Rattle.writer.specs.Places.{PutTo};
 
 // Whether the mark is what it should be, and the value zero where the field is absent.
 pub(crate) fn fitting(there: bool, mark: bool, zero: bool) -> bool
@@ -37,42 +36,38 @@ pub(crate) fn fitting(there: bool, mark: bool, zero: bool) -> bool
 // ---- a number
 
 // ue(v).
-pub(crate) fn put_number(d: &mut [u8], c: Cursor, v: u32) -> Wrote
-    ensures { λ r. ⌜ Put ue v (now (d .entry)) (c .at) (now (d .exit)) r ⌝ }
+pub(crate) fn put_number(d: &mut [u8], c: Cursor, v: u32) -> Cursor
+    ensures { λ r. ⌜ PutTo ue v (now (d .entry)) (c .at) (now (d .exit)) r ⌝ }
 {
-    bits::put::put_ue(d, c, v)
+    place_of(bits::put::put_ue(d, c, v))
 }
 
 // u(n).
-pub(crate) fn put_bits(d: &mut [u8], c: Cursor, n: u32, v: u32) -> Wrote
-    ensures { λ r. ⌜ Put (u n) v (now (d .entry)) (c .at) (now (d .exit)) r ⌝ }
+pub(crate) fn put_bits(d: &mut [u8], c: Cursor, n: u32, v: u32) -> Cursor
+    ensures { λ r. ⌜ PutTo (u n) v (now (d .entry)) (c .at) (now (d .exit)) r ⌝ }
 {
-    bits::put::put_bits(d, c, n, v)
+    place_of(bits::put::put_bits(d, c, n, v))
 }
 
 // ue(v), at most `most`. Reading refuses any other by this number.
-pub(crate) fn put_tested(d: &mut [u8], c: Cursor, v: u32, most: u32, number: u8) -> Wrote
-    ensures { λ r. ⌜ Put (test (λ k. leb k most) number pos ue) v (now (d .entry)) (c .at) (now (d .exit)) r ⌝ }
+pub(crate) fn put_tested(d: &mut [u8], c: Cursor, v: u32, most: u32, number: u8) -> Cursor
+    ensures { λ r. ⌜ PutTo (test (λ k. leb k most) number pos ue) v (now (d .entry)) (c .at) (now (d .exit)) r ⌝ }
 {
     if v <= most {
         put_number(d, c, v)
     } else {
-        Wrote::Refused(refuse(NO_BITS, 0, c.at))
+        Cursor { at: NOWHERE }
     }
 }
 
 // ue(v).
-pub(crate) fn put_number_if(d: &mut [u8], c: Cursor, there: bool, m: MarkedNumber) -> Wrote
-    ensures { λ r. ⌜ Put (numberIf there ue) m (now (d .entry)) (c .at) (now (d .exit)) r ⌝ }
+pub(crate) fn put_number_if(d: &mut [u8], c: Cursor, there: bool, m: MarkedNumber) -> Cursor
+    ensures { λ r. ⌜ PutTo (numberIf there ue) m (now (d .entry)) (c .at) (now (d .exit)) r ⌝ }
 {
     if !fitting(there, m.there, m.value == 0) {
-        return Wrote::Refused(refuse(NO_BITS, 0, c.at));
+        return Cursor { at: NOWHERE };
     }
-    if there {
-        put_number(d, c, m.value)
-    } else {
-        Wrote::At(c)
-    }
+    if there { put_number(d, c, m.value) } else { c }
 }
 
 // ue(v), at most `most`.
@@ -83,31 +78,27 @@ pub(crate) fn put_tested_if(
     m: MarkedNumber,
     most: u32,
     number: u8,
-) -> Wrote
-    ensures { λ r. ⌜ Put (numberIf there (test (λ k. leb k most) number pos ue)) m (now (d .entry)) (c .at) (now (d .exit)) r ⌝ }
+) -> Cursor
+    ensures { λ r. ⌜ PutTo (numberIf there (test (λ k. leb k most) number pos ue)) m (now (d .entry)) (c .at) (now (d .exit)) r ⌝ }
 {
     if !fitting(there, m.there, m.value == 0) {
-        return Wrote::Refused(refuse(NO_BITS, 0, c.at));
+        return Cursor { at: NOWHERE };
     }
     if there {
         put_tested(d, c, m.value, most, number)
     } else {
-        Wrote::At(c)
+        c
     }
 }
 
 // u(n).
-pub(crate) fn put_bits_if(d: &mut [u8], c: Cursor, there: bool, m: MarkedNumber, n: u32) -> Wrote
-    ensures { λ r. ⌜ Put (numberIf there (u n)) m (now (d .entry)) (c .at) (now (d .exit)) r ⌝ }
+pub(crate) fn put_bits_if(d: &mut [u8], c: Cursor, there: bool, m: MarkedNumber, n: u32) -> Cursor
+    ensures { λ r. ⌜ PutTo (numberIf there (u n)) m (now (d .entry)) (c .at) (now (d .exit)) r ⌝ }
 {
     if !fitting(there, m.there, m.value == 0) {
-        return Wrote::Refused(refuse(NO_BITS, 0, c.at));
+        return Cursor { at: NOWHERE };
     }
-    if there {
-        put_bits(d, c, n, m.value)
-    } else {
-        Wrote::At(c)
-    }
+    if there { put_bits(d, c, n, m.value) } else { c }
 }
 
 // A width that counts as n + 4, which may not fit: over 32 all widths count as 32.
@@ -118,93 +109,81 @@ fn four_more(n: u32) -> u32
 }
 
 // u(n + 4): pic_order_cnt_lsb.
-pub(crate) fn put_lsb_if(d: &mut [u8], c: Cursor, there: bool, m: MarkedNumber, n: u32) -> Wrote
-    ensures { λ r. ⌜ Put (numberIf there (u (n + 4))) m (now (d .entry)) (c .at) (now (d .exit)) r ⌝ }
+pub(crate) fn put_lsb_if(d: &mut [u8], c: Cursor, there: bool, m: MarkedNumber, n: u32) -> Cursor
+    ensures { λ r. ⌜ PutTo (numberIf there (u (n + 4))) m (now (d .entry)) (c .at) (now (d .exit)) r ⌝ }
 {
     put_bits_if(d, c, there, m, four_more(n))
 }
 
 // u(2) that is not 3.
-fn put_colour_plane(d: &mut [u8], c: Cursor, v: u32) -> Wrote
-    ensures { λ r. ⌜ Put (test (λ p. not (eqb p 3)) 11 pos (u 2)) v (now (d .entry)) (c .at) (now (d .exit)) r ⌝ }
+fn put_colour_plane(d: &mut [u8], c: Cursor, v: u32) -> Cursor
+    ensures { λ r. ⌜ PutTo (test (λ p. not (eqb p 3)) 11 pos (u 2)) v (now (d .entry)) (c .at) (now (d .exit)) r ⌝ }
 {
     if v != 3 {
         put_bits(d, c, 2, v)
     } else {
-        Wrote::Refused(refuse(NO_BITS, 0, c.at))
+        Cursor { at: NOWHERE }
     }
 }
 
 // colour_plane_id
-pub(crate) fn put_colour_plane_if(d: &mut [u8], c: Cursor, there: bool, m: MarkedNumber) -> Wrote
-    ensures { λ r. ⌜ Put (numberIf there (test (λ p. not (eqb p 3)) 11 pos (u 2))) m (now (d .entry)) (c .at) (now (d .exit)) r ⌝ }
+pub(crate) fn put_colour_plane_if(d: &mut [u8], c: Cursor, there: bool, m: MarkedNumber) -> Cursor
+    ensures { λ r. ⌜ PutTo (numberIf there (test (λ p. not (eqb p 3)) 11 pos (u 2))) m (now (d .entry)) (c .at) (now (d .exit)) r ⌝ }
 {
     if !fitting(there, m.there, m.value == 0) {
-        return Wrote::Refused(refuse(NO_BITS, 0, c.at));
+        return Cursor { at: NOWHERE };
     }
     if there {
         put_colour_plane(d, c, m.value)
     } else {
-        Wrote::At(c)
+        c
     }
 }
 
 // ue(v), whose absence the record tells elsewhere: zero where it is absent.
-pub(crate) fn put_given(d: &mut [u8], c: Cursor, there: bool, v: u32) -> Wrote
-    ensures { λ r. ⌜ Put (given there 0 isZero ue) v (now (d .entry)) (c .at) (now (d .exit)) r ⌝ }
+pub(crate) fn put_given(d: &mut [u8], c: Cursor, there: bool, v: u32) -> Cursor
+    ensures { λ r. ⌜ PutTo (given there 0 isZero ue) v (now (d .entry)) (c .at) (now (d .exit)) r ⌝ }
 {
     if there {
         return put_number(d, c, v);
     }
-    if v == 0 {
-        Wrote::At(c)
-    } else {
-        Wrote::Refused(refuse(NO_BITS, 0, c.at))
-    }
+    if v == 0 { c } else { Cursor { at: NOWHERE } }
 }
 
 // ---- a flag
 
-pub(crate) fn put_flag(d: &mut [u8], c: Cursor, b: bool) -> Wrote
-    ensures { λ r. ⌜ Put flag b (now (d .entry)) (c .at) (now (d .exit)) r ⌝ }
+pub(crate) fn put_flag(d: &mut [u8], c: Cursor, b: bool) -> Cursor
+    ensures { λ r. ⌜ PutTo flag b (now (d .entry)) (c .at) (now (d .exit)) r ⌝ }
 {
-    bits::put::put_flag(d, c, b)
+    place_of(bits::put::put_flag(d, c, b))
 }
 
-pub(crate) fn put_flag_if(d: &mut [u8], c: Cursor, there: bool, m: MarkedFlag) -> Wrote
-    ensures { λ r. ⌜ Put (flagIf there) m (now (d .entry)) (c .at) (now (d .exit)) r ⌝ }
+pub(crate) fn put_flag_if(d: &mut [u8], c: Cursor, there: bool, m: MarkedFlag) -> Cursor
+    ensures { λ r. ⌜ PutTo (flagIf there) m (now (d .entry)) (c .at) (now (d .exit)) r ⌝ }
 {
     if !fitting(there, m.there, !m.value) {
-        return Wrote::Refused(refuse(NO_BITS, 0, c.at));
+        return Cursor { at: NOWHERE };
     }
-    if there {
-        put_flag(d, c, m.value)
-    } else {
-        Wrote::At(c)
-    }
+    if there { put_flag(d, c, m.value) } else { c }
 }
 
 // One whose absence the record tells elsewhere: clear where it is absent.
-pub(crate) fn put_given_flag(d: &mut [u8], c: Cursor, there: bool, v: bool) -> Wrote
-    ensures { λ r. ⌜ Put (given there false not flag) v (now (d .entry)) (c .at) (now (d .exit)) r ⌝ }
+pub(crate) fn put_given_flag(d: &mut [u8], c: Cursor, there: bool, v: bool) -> Cursor
+    ensures { λ r. ⌜ PutTo (given there false not flag) v (now (d .entry)) (c .at) (now (d .exit)) r ⌝ }
 {
     if there {
         return put_flag(d, c, v);
     }
-    if !v {
-        Wrote::At(c)
-    } else {
-        Wrote::Refused(refuse(NO_BITS, 0, c.at))
-    }
+    if !v { c } else { Cursor { at: NOWHERE } }
 }
 
 // ---- a signed number
 
 // se(v).
-pub(crate) fn put_signed(d: &mut [u8], c: Cursor, v: i32) -> Wrote
-    ensures { λ r. ⌜ Put se v (now (d .entry)) (c .at) (now (d .exit)) r ⌝ }
+pub(crate) fn put_signed(d: &mut [u8], c: Cursor, v: i32) -> Cursor
+    ensures { λ r. ⌜ PutTo se v (now (d .entry)) (c .at) (now (d .exit)) r ⌝ }
 {
-    bits::put::put_se(d, c, v)
+    place_of(bits::put::put_se(d, c, v))
 }
 
 fn is_zero(v: i32) -> bool
@@ -214,41 +193,37 @@ fn is_zero(v: i32) -> bool
 }
 
 // se(v).
-pub(crate) fn put_signed_if(d: &mut [u8], c: Cursor, there: bool, m: MarkedSigned) -> Wrote
-    ensures { λ r. ⌜ Put (signedIf there se) m (now (d .entry)) (c .at) (now (d .exit)) r ⌝ }
+pub(crate) fn put_signed_if(d: &mut [u8], c: Cursor, there: bool, m: MarkedSigned) -> Cursor
+    ensures { λ r. ⌜ PutTo (signedIf there se) m (now (d .entry)) (c .at) (now (d .exit)) r ⌝ }
 {
     if !fitting(there, m.there, is_zero(m.value)) {
-        return Wrote::Refused(refuse(NO_BITS, 0, c.at));
+        return Cursor { at: NOWHERE };
     }
-    if there {
-        put_signed(d, c, m.value)
-    } else {
-        Wrote::At(c)
-    }
+    if there { put_signed(d, c, m.value) } else { c }
 }
 
 // se(v), whose absence the record tells elsewhere: zero where it is absent.
-pub(crate) fn put_given_signed(d: &mut [u8], c: Cursor, there: bool, v: i32) -> Wrote
-    ensures { λ r. ⌜ Put (given there (pos 0) isZeroZ se) v (now (d .entry)) (c .at) (now (d .exit)) r ⌝ }
+pub(crate) fn put_given_signed(d: &mut [u8], c: Cursor, there: bool, v: i32) -> Cursor
+    ensures { λ r. ⌜ PutTo (given there (pos 0) isZeroZ se) v (now (d .entry)) (c .at) (now (d .exit)) r ⌝ }
 {
     if there {
         return put_signed(d, c, v);
     }
     if is_zero(v) {
-        Wrote::At(c)
+        c
     } else {
-        Wrote::Refused(refuse(NO_BITS, 0, c.at))
+        Cursor { at: NOWHERE }
     }
 }
 
 // se(v), from -6 to 6. Reading refuses any other by this number.
-fn put_offset(d: &mut [u8], c: Cursor, v: i32, number: u8) -> Wrote
-    ensures { λ r. ⌜ Put (test offsetFits number (λ z. z) se) v (now (d .entry)) (c .at) (now (d .exit)) r ⌝ }
+fn put_offset(d: &mut [u8], c: Cursor, v: i32, number: u8) -> Cursor
+    ensures { λ r. ⌜ PutTo (test offsetFits number (λ z. z) se) v (now (d .entry)) (c .at) (now (d .exit)) r ⌝ }
 {
     if offset_fits(v) {
         put_signed(d, c, v)
     } else {
-        Wrote::Refused(refuse(NO_BITS, 0, c.at))
+        Cursor { at: NOWHERE }
     }
 }
 
@@ -259,53 +234,49 @@ pub(crate) fn put_offset_if(
     there: bool,
     m: MarkedSigned,
     number: u8,
-) -> Wrote
-    ensures { λ r. ⌜ Put (signedIf there (test offsetFits number (λ z. z) se)) m (now (d .entry)) (c .at) (now (d .exit)) r ⌝ }
+) -> Cursor
+    ensures { λ r. ⌜ PutTo (signedIf there (test offsetFits number (λ z. z) se)) m (now (d .entry)) (c .at) (now (d .exit)) r ⌝ }
 {
     if !fitting(there, m.there, is_zero(m.value)) {
-        return Wrote::Refused(refuse(NO_BITS, 0, c.at));
+        return Cursor { at: NOWHERE };
     }
     if there {
         put_offset(d, c, m.value, number)
     } else {
-        Wrote::At(c)
+        c
     }
 }
 
 // ---- slice_qp_delta and slice_qs_delta: QP and QS, the sums that they are part of, are tested
 
 // slice_qp_delta
-pub(crate) fn put_qp(d: &mut [u8], c: Cursor, v: i32, x: Context) -> Wrote
-    ensures { λ r. ⌜ Put (test (qpFits x) 16 (λ z. z) se) v (now (d .entry)) (c .at) (now (d .exit)) r ⌝ }
+pub(crate) fn put_qp(d: &mut [u8], c: Cursor, v: i32, x: Context) -> Cursor
+    ensures { λ r. ⌜ PutTo (test (qpFits x) 16 (λ z. z) se) v (now (d .entry)) (c .at) (now (d .exit)) r ⌝ }
 {
     if qp_fits(x, v) {
         put_signed(d, c, v)
     } else {
-        Wrote::Refused(refuse(NO_BITS, 0, c.at))
+        Cursor { at: NOWHERE }
     }
 }
 
 // slice_qs_delta
-fn put_qs(d: &mut [u8], c: Cursor, v: i32, x: Context) -> Wrote
-    ensures { λ r. ⌜ Put (test (qsFits x) 17 (λ z. z) se) v (now (d .entry)) (c .at) (now (d .exit)) r ⌝ }
+fn put_qs(d: &mut [u8], c: Cursor, v: i32, x: Context) -> Cursor
+    ensures { λ r. ⌜ PutTo (test (qsFits x) 17 (λ z. z) se) v (now (d .entry)) (c .at) (now (d .exit)) r ⌝ }
 {
     if qs_fits(x, v) {
         put_signed(d, c, v)
     } else {
-        Wrote::Refused(refuse(NO_BITS, 0, c.at))
+        Cursor { at: NOWHERE }
     }
 }
 
 // slice_qs_delta
-pub(crate) fn put_qs_if(d: &mut [u8], c: Cursor, there: bool, m: MarkedSigned, x: Context) -> Wrote
-    ensures { λ r. ⌜ Put (signedIf there (test (qsFits x) 17 (λ z. z) se)) m (now (d .entry)) (c .at) (now (d .exit)) r ⌝ }
+pub(crate) fn put_qs_if(d: &mut [u8], c: Cursor, there: bool, m: MarkedSigned, x: Context) -> Cursor
+    ensures { λ r. ⌜ PutTo (signedIf there (test (qsFits x) 17 (λ z. z) se)) m (now (d .entry)) (c .at) (now (d .exit)) r ⌝ }
 {
     if !fitting(there, m.there, is_zero(m.value)) {
-        return Wrote::Refused(refuse(NO_BITS, 0, c.at));
+        return Cursor { at: NOWHERE };
     }
-    if there {
-        put_qs(d, c, m.value, x)
-    } else {
-        Wrote::At(c)
-    }
+    if there { put_qs(d, c, m.value, x) } else { c }
 }

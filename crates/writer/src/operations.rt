@@ -1,10 +1,8 @@
 // The lists: codes with up to two operands each, and the closing code, written in one loop for all of them.
 use crate::marks::put_given;
 use crate::marks::put_tested;
-use bits::put::Wrote;
+use crate::places::NOWHERE;
 use bits::read::Cursor;
-use bits::refusals::NO_BITS;
-use bits::refusals::refuse;
 use codes::conditions::both;
 use lists::operations::ListKind;
 use lists::operations::has_first;
@@ -13,10 +11,10 @@ use syntax::record::Operations;
 ghost use mathlib.Core.Path.{_≡_};
 ghost use lib.ListN.{length};
 ghost use Rattle.fmt.specs.Arrays.{padded};
-ghost use Rattle.fmt.specs.Put.{Put};
 ghost use Rattle.syntax.specs.Marks.{isZero};
 ghost use Rattle.syntax.specs.Lists.{okOperations, isNoOperations, operands, operations, operationsIf};
 ghost use Rattle.lists.specs.Kinds.{kindOf};
+ghost use Rattle.writer.specs.Places.{PutTo};
 
 // Whether an array holds no more than `count` entries, and has room for them: those from there on are zero.
 fn is_padded(a: &[u32; 66], count: u32) -> bool
@@ -55,22 +53,19 @@ fn put_operands(
     code: u32,
     first: u32,
     second: u32,
-) -> Wrote
-    ensures { λ r. ⌜ Put (operands (kindOf kind) code) (first, second) (now (d .entry)) (c .at) (now (d .exit)) r ⌝ }
+) -> Cursor
+    ensures { λ r. ⌜ PutTo (operands (kindOf kind) code) (first, second) (now (d .entry)) (c .at) (now (d .exit)) r ⌝ }
 {
-    let a = put_given(d, c, has_first(kind, code), first);
-    let Wrote::At(next) = a else {
-        return a;
-    };
+    let next = put_given(d, c, has_first(kind, code), first);
     put_given(d, next, has_second(kind, code), second)
 }
 
 // A list. A closing code among its entries would end it early, so such a list has no bits.
-pub(crate) fn put_operations(d: &mut [u8], c: Cursor, o: Operations, kind: ListKind) -> Wrote
-    ensures { λ r. ⌜ Put (operations (kindOf kind)) o (now (d .entry)) (c .at) (now (d .exit)) r ⌝ }
+pub(crate) fn put_operations(d: &mut [u8], c: Cursor, o: Operations, kind: ListKind) -> Cursor
+    ensures { λ r. ⌜ PutTo (operations (kindOf kind)) o (now (d .entry)) (c .at) (now (d .exit)) r ⌝ }
 {
     if !is_tidy(o) {
-        return Wrote::Refused(refuse(NO_BITS, 0, c.at));
+        return Cursor { at: NOWHERE };
     }
     let mut i: u32 = 0;
     let mut at = c;
@@ -78,18 +73,11 @@ pub(crate) fn put_operations(d: &mut [u8], c: Cursor, o: Operations, kind: ListK
         let k = i as usize;
         let code = o.codes[k];
         if code == kind.closing {
-            return Wrote::Refused(refuse(NO_BITS, 0, at.at));
+            return Cursor { at: NOWHERE };
         }
-        let a = put_tested(d, at, code, kind.greatest, kind.number);
-        let Wrote::At(c1) = a else {
-            return a;
-        };
-        let b = put_operands(d, c1, kind, code, o.first[k], o.second[k]);
-        let Wrote::At(c2) = b else {
-            return b;
-        };
+        let next = put_tested(d, at, code, kind.greatest, kind.number);
+        at = put_operands(d, next, kind, code, o.first[k], o.second[k]);
         i += 1;
-        at = c2;
     }
     put_tested(d, at, kind.closing, kind.greatest, kind.number)
 }
@@ -108,15 +96,15 @@ pub(crate) fn put_operations_if(
     there: bool,
     o: Operations,
     kind: ListKind,
-) -> Wrote
-    ensures { λ r. ⌜ Put (operationsIf there (kindOf kind)) o (now (d .entry)) (c .at) (now (d .exit)) r ⌝ }
+) -> Cursor
+    ensures { λ r. ⌜ PutTo (operationsIf there (kindOf kind)) o (now (d .entry)) (c .at) (now (d .exit)) r ⌝ }
 {
     if there {
         return put_operations(d, c, o, kind);
     }
     if is_none(o) {
-        Wrote::At(c)
+        c
     } else {
-        Wrote::Refused(refuse(NO_BITS, 0, c.at))
+        Cursor { at: NOWHERE }
     }
 }

@@ -4,34 +4,29 @@ use crate::marks::put_given_signed;
 use crate::marks::put_lsb_if;
 use crate::marks::put_number_if;
 use crate::marks::put_signed_if;
-use bits::put::Wrote;
+use crate::places::NOWHERE;
 use bits::read::Cursor;
-use bits::refusals::NO_BITS;
-use bits::refusals::refuse;
 use codes::conditions::both;
 use syntax::context::Context;
 use syntax::record::Deltas;
 use syntax::record::OrderCount;
-ghost use Rattle.fmt.specs.Put.{Put};
 ghost use Rattle.syntax.specs.SliceHeader.{deltas, orderCount};
+ghost use Rattle.writer.specs.Places.{PutTo};
 
 // delta_pic_order_cnt[0] and [1]
-fn put_deltas(d: &mut [u8], c: Cursor, x: Context, field: bool, v: Deltas) -> Wrote
-    ensures { λ r. ⌜ Put (deltas x field) v (now (d .entry)) (c .at) (now (d .exit)) r ⌝ }
+fn put_deltas(d: &mut [u8], c: Cursor, x: Context, field: bool, v: Deltas) -> Cursor
+    ensures { λ r. ⌜ PutTo (deltas x field) v (now (d .entry)) (c .at) (now (d .exit)) r ⌝ }
 {
     let there = x.sequence.pic_order_cnt_type == 1;
     if !fitting(there, v.there, true) {
-        return Wrote::Refused(refuse(NO_BITS, 0, c.at));
+        return Cursor { at: NOWHERE };
     }
     let first_there = both(there, !x.sequence.delta_pic_order_always_zero_flag);
     let bottom = both(
         x.picture.bottom_field_pic_order_in_frame_present_flag,
         !field,
     );
-    let a1 = put_given_signed(d, c, first_there, v.first);
-    let Wrote::At(c1) = a1 else {
-        return a1;
-    };
+    let c1 = put_given_signed(d, c, first_there, v.first);
     put_given_signed(d, c1, both(first_there, bottom), v.second)
 }
 
@@ -41,8 +36,8 @@ pub(crate) fn put_order_count(
     x: Context,
     field: bool,
     o: OrderCount,
-) -> Wrote
-    ensures { λ r. ⌜ Put (orderCount x field) o (now (d .entry)) (c .at) (now (d .exit)) r ⌝ }
+) -> Cursor
+    ensures { λ r. ⌜ PutTo (orderCount x field) o (now (d .entry)) (c .at) (now (d .exit)) r ⌝ }
 {
     let there = x.sequence.pic_order_cnt_type == 0;
     let bottom = both(
@@ -50,18 +45,9 @@ pub(crate) fn put_order_count(
         !field,
     );
     let width = x.sequence.log2_max_pic_order_cnt_lsb_minus4;
-    let a1 = put_lsb_if(d, c, there, o.pic_order_cnt_lsb, width);
-    let Wrote::At(c1) = a1 else {
-        return a1;
-    };
-    let a2 = put_signed_if(d, c1, both(there, bottom), o.delta_pic_order_cnt_bottom);
-    let Wrote::At(c2) = a2 else {
-        return a2;
-    };
-    let a3 = put_deltas(d, c2, x, field, o.delta_pic_order_cnt);
-    let Wrote::At(c3) = a3 else {
-        return a3;
-    };
+    let c1 = put_lsb_if(d, c, there, o.pic_order_cnt_lsb, width);
+    let c2 = put_signed_if(d, c1, both(there, bottom), o.delta_pic_order_cnt_bottom);
+    let c3 = put_deltas(d, c2, x, field, o.delta_pic_order_cnt);
     put_number_if(
         d,
         c3,

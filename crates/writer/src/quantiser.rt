@@ -3,7 +3,6 @@ use crate::marks::put_flag_if;
 use crate::marks::put_number_if;
 use crate::marks::put_qp;
 use crate::marks::put_qs_if;
-use bits::put::Wrote;
 use bits::read::Cursor;
 use codes::conditions::I;
 use codes::conditions::SI;
@@ -15,9 +14,9 @@ use syntax::context::Context;
 use syntax::record::Quantiser;
 ghost use mathlib.Core.Bool.{not, _&&_};
 ghost use mathlib.Core.Path.{_≡_};
-ghost use Rattle.fmt.specs.Put.{Put};
 ghost use Rattle.syntax.specs.Context.{isI, isSI};
 ghost use Rattle.syntax.specs.SliceHeader.{quantiser};
+ghost use Rattle.writer.specs.Places.{PutTo};
 
 // Whether cabac_init_idc is there.
 fn has_cabac(x: Context, slice_type: u32) -> bool
@@ -35,22 +34,13 @@ pub(crate) fn put_quantiser(
     x: Context,
     slice_type: u32,
     q: Quantiser,
-) -> Wrote
-    ensures { λ r. ⌜ Put (quantiser x «slice_type») q (now (d .entry)) (c .at) (now (d .exit)) r ⌝ }
+) -> Cursor
+    ensures { λ r. ⌜ PutTo (quantiser x «slice_type») q (now (d .entry)) (c .at) (now (d .exit)) r ⌝ }
 {
-    let a1 = put_number_if(d, c, has_cabac(x, slice_type), q.cabac_init_idc);
-    let Wrote::At(c1) = a1 else {
-        return a1;
-    };
-    let a2 = put_qp(d, c1, q.slice_qp_delta, x);
-    let Wrote::At(c2) = a2 else {
-        return a2;
-    };
+    let c1 = put_number_if(d, c, has_cabac(x, slice_type), q.cabac_init_idc);
+    let c2 = put_qp(d, c1, q.slice_qp_delta, x);
     let sp = is_type(slice_type, SP);
-    let a3 = put_flag_if(d, c2, sp, q.sp_for_switch_flag);
-    let Wrote::At(c3) = a3 else {
-        return a3;
-    };
+    let c3 = put_flag_if(d, c2, sp, q.sp_for_switch_flag);
     let switching = either(sp, is_type(slice_type, SI));
     put_qs_if(d, c3, switching, q.slice_qs_delta, x)
 }

@@ -3,10 +3,8 @@ use crate::marks::put_flag;
 use crate::marks::put_given_flag;
 use crate::marks::put_given_signed;
 use crate::marks::put_number_if;
-use bits::put::Wrote;
+use crate::places::NOWHERE;
 use bits::read::Cursor;
-use bits::refusals::NO_BITS;
-use bits::refusals::refuse;
 use codes::conditions::B;
 use codes::conditions::both;
 use codes::conditions::has_chroma;
@@ -20,51 +18,30 @@ use syntax::record::WeightList;
 use weights::weights::count_if;
 ghost use mathlib.Core.Path.{_≡_};
 ghost use Rattle.fmt.specs.Arrays.{padded};
-ghost use Rattle.fmt.specs.Put.{Put};
 ghost use Rattle.syntax.specs.SliceHeader.{weight, isNoWeight, weightList, predWeightTable};
 ghost use Rattle.weights.specs.Halves.{chromaHalf};
+ghost use Rattle.writer.specs.Places.{PutTo};
 
 // The chroma half of an entry, there only if `chroma`.
-fn put_chroma_half(d: &mut [u8], c: Cursor, chroma: bool, w: Weight) -> Wrote
-    ensures { λ r. ⌜ Put (chromaHalf chroma) (w .«chroma_weight_flag», (w .«cb_weight», (w .«cb_offset», (w .«cr_weight», w .«cr_offset»)))) (now (d .entry)) (c .at) (now (d .exit)) r ⌝ }
+fn put_chroma_half(d: &mut [u8], c: Cursor, chroma: bool, w: Weight) -> Cursor
+    ensures { λ r. ⌜ PutTo (chromaHalf chroma) (w .«chroma_weight_flag», (w .«cb_weight», (w .«cb_offset», (w .«cr_weight», w .«cr_offset»)))) (now (d .entry)) (c .at) (now (d .exit)) r ⌝ }
 {
     let f = w.chroma_weight_flag;
-    let a1 = put_given_flag(d, c, chroma, f);
-    let Wrote::At(c1) = a1 else {
-        return a1;
-    };
-    let a2 = put_given_signed(d, c1, f, w.cb_weight);
-    let Wrote::At(c2) = a2 else {
-        return a2;
-    };
-    let a3 = put_given_signed(d, c2, f, w.cb_offset);
-    let Wrote::At(c3) = a3 else {
-        return a3;
-    };
-    let a4 = put_given_signed(d, c3, f, w.cr_weight);
-    let Wrote::At(c4) = a4 else {
-        return a4;
-    };
+    let c1 = put_given_flag(d, c, chroma, f);
+    let c2 = put_given_signed(d, c1, f, w.cb_weight);
+    let c3 = put_given_signed(d, c2, f, w.cb_offset);
+    let c4 = put_given_signed(d, c3, f, w.cr_weight);
     put_given_signed(d, c4, f, w.cr_offset)
 }
 
 // An entry.
-pub(crate) fn put_weight(d: &mut [u8], c: Cursor, chroma: bool, w: Weight) -> Wrote
-    ensures { λ r. ⌜ Put (weight chroma) w (now (d .entry)) (c .at) (now (d .exit)) r ⌝ }
+pub(crate) fn put_weight(d: &mut [u8], c: Cursor, chroma: bool, w: Weight) -> Cursor
+    ensures { λ r. ⌜ PutTo (weight chroma) w (now (d .entry)) (c .at) (now (d .exit)) r ⌝ }
 {
     let f = w.luma_weight_flag;
-    let a1 = put_flag(d, c, f);
-    let Wrote::At(c1) = a1 else {
-        return a1;
-    };
-    let a2 = put_given_signed(d, c1, f, w.luma_weight);
-    let Wrote::At(c2) = a2 else {
-        return a2;
-    };
-    let a3 = put_given_signed(d, c2, f, w.luma_offset);
-    let Wrote::At(c3) = a3 else {
-        return a3;
-    };
+    let c1 = put_flag(d, c, f);
+    let c2 = put_given_signed(d, c1, f, w.luma_weight);
+    let c3 = put_given_signed(d, c2, f, w.luma_offset);
     put_chroma_half(d, c3, chroma, w)
 }
 
@@ -97,25 +74,27 @@ fn is_tidy(w: WeightList) -> bool
 }
 
 // A list of n entries.
-pub(crate) fn put_weight_list(d: &mut [u8], c: Cursor, chroma: bool, n: u32, w: WeightList) -> Wrote
-    ensures { λ r. ⌜ Put (weightList chroma n) w (now (d .entry)) (c .at) (now (d .exit)) r ⌝ }
+pub(crate) fn put_weight_list(
+    d: &mut [u8],
+    c: Cursor,
+    chroma: bool,
+    n: u32,
+    w: WeightList,
+) -> Cursor
+    ensures { λ r. ⌜ PutTo (weightList chroma n) w (now (d .entry)) (c .at) (now (d .exit)) r ⌝ }
 {
     if !both(w.count == n, is_tidy(w)) {
-        return Wrote::Refused(refuse(NO_BITS, 0, c.at));
+        return Cursor { at: NOWHERE };
     }
     let mut i: u32 = 0;
     let mut at = c;
     while i < n {
         let k = i as usize;
         let x = w.entries[k];
-        let a = put_weight(d, at, chroma, x);
-        let Wrote::At(next) = a else {
-            return a;
-        };
+        at = put_weight(d, at, chroma, x);
         i += 1;
-        at = next;
     }
-    Wrote::At(at)
+    at
 }
 
 // The table for lists of n0 and n1 references.
@@ -127,30 +106,18 @@ pub(crate) fn put_pred_weight_table(
     n0: u32,
     n1: u32,
     w: PredWeightTable,
-) -> Wrote
-    ensures { λ r. ⌜ Put (predWeightTable x «slice_type» n0 n1) w (now (d .entry)) (c .at) (now (d .exit)) r ⌝ }
+) -> Cursor
+    ensures { λ r. ⌜ PutTo (predWeightTable x «slice_type» n0 n1) w (now (d .entry)) (c .at) (now (d .exit)) r ⌝ }
 {
     let weighted = is_weighted(x, slice_type);
     let chroma = has_chroma(x);
-    let denominator = w.chroma_log2_weight_denom;
-    let l0 = w.l0;
-    let l1 = w.l1;
     let luma = MarkedNumber {
         there: w.there,
         value: w.luma_log2_weight_denom,
     };
-    let a1 = put_number_if(d, c, weighted, luma);
-    let Wrote::At(c1) = a1 else {
-        return a1;
-    };
-    let a2 = put_number_if(d, c1, both(weighted, chroma), denominator);
-    let Wrote::At(c2) = a2 else {
-        return a2;
-    };
-    let a3 = put_weight_list(d, c2, chroma, count_if(weighted, n0), l0);
-    let Wrote::At(c3) = a3 else {
-        return a3;
-    };
+    let c1 = put_number_if(d, c, weighted, luma);
+    let c2 = put_number_if(d, c1, both(weighted, chroma), w.chroma_log2_weight_denom);
+    let c3 = put_weight_list(d, c2, chroma, count_if(weighted, n0), w.l0);
     let n = count_if(both(weighted, is_type(slice_type, B)), n1);
-    put_weight_list(d, c3, chroma, n, l1)
+    put_weight_list(d, c3, chroma, n, w.l1)
 }

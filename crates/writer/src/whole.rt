@@ -7,6 +7,7 @@ use crate::marks::put_number;
 use crate::marks::put_tested;
 use crate::modification::put_modifications;
 use crate::order::put_order_count;
+use crate::places::reached;
 use crate::quantiser::put_quantiser;
 use crate::weight_table::put_pred_weight_table;
 use bits::put::Wrote;
@@ -19,85 +20,60 @@ ghost use mathlib.Core.Path.{_≡_};
 ghost use Prim.Native.Nat.{_≤_};
 ghost use Rattle.fmt.specs.Put.{Put};
 ghost use Rattle.syntax.specs.SliceHeader.{activeOf, parts, ofHeader};
+ghost use Rattle.writer.specs.Places.{PutTo};
 ghost use Rattle.writer.specs.Stages.{knownLead, back, middle, fields};
 
-// How many references a list has.
+// How many references a list has. A count over 31 has led nowhere before it is asked for, and any answer does.
 fn active(m: MarkedNumber, default: u32) -> u32
-    requires { ⌜ (m .value ≤ 31) × (default ≤ 31) ⌝ }
-    ensures { λ r. ⌜ r ≡ activeOf m default ⌝ }
+    ensures { λ r. ⌜ (m .value ≤ 31 → default ≤ 31 → r ≡ activeOf m default) ⌝ }
 {
-    if m.there { m.value + 1 } else { default + 1 }
+    if m.there {
+        return m.value % 32 + 1;
+    }
+    default % 32 + 1
 }
 
 // first_mb_in_slice to pic_parameter_set_id, which has been looked up.
-fn put_lead(d: &mut [u8], h: SliceHeader) -> Wrote
-    ensures { λ r. ⌜ Put knownLead (ofHeader h .0) (now (d .entry)) 0 (now (d .exit)) r ⌝ }
+fn put_lead(d: &mut [u8], h: SliceHeader) -> Cursor
+    ensures { λ r. ⌜ PutTo knownLead (ofHeader h .0) (now (d .entry)) 0 (now (d .exit)) r ⌝ }
 {
-    let a1 = put_number(d, Cursor { at: 0 }, h.first_mb_in_slice);
-    let Wrote::At(c1) = a1 else {
-        return a1;
-    };
-    let a2 = put_tested(d, c1, h.slice_type, 9, SLICE_TYPE);
-    let Wrote::At(c2) = a2 else {
-        return a2;
-    };
+    let c1 = put_number(d, Cursor { at: 0 }, h.first_mb_in_slice);
+    let c2 = put_tested(d, c1, h.slice_type, 9, SLICE_TYPE);
     put_number(d, c2, h.pic_parameter_set_id)
 }
 
 // cabac_init_idc to slice_group_change_cycle.
-fn put_back(d: &mut [u8], c: Cursor, x: Context, h: SliceHeader) -> Wrote
-    ensures { λ r. ⌜ Put (back x (h .«slice_type»)) (h .quantiser, h .filter) (now (d .entry)) (c .at) (now (d .exit)) r ⌝ }
+fn put_back(d: &mut [u8], c: Cursor, x: Context, h: SliceHeader) -> Cursor
+    ensures { λ r. ⌜ PutTo (back x (h .«slice_type»)) (h .quantiser, h .filter) (now (d .entry)) (c .at) (now (d .exit)) r ⌝ }
 {
-    let a1 = put_quantiser(d, c, x, h.slice_type, h.quantiser);
-    let Wrote::At(c1) = a1 else {
-        return a1;
-    };
+    let c1 = put_quantiser(d, c, x, h.slice_type, h.quantiser);
     put_filter(d, c1, x, h.filter)
 }
 
 // ref_pic_list_modification( ) and all that follows it, for lists of n0 and n1 references.
-fn put_middle(d: &mut [u8], c: Cursor, x: Context, h: SliceHeader, n0: u32, n1: u32) -> Wrote
-    ensures { λ r. ⌜ Put (middle x (h .«slice_type») n0 n1) (ofHeader h .1 .1 .1 .1) (now (d .entry)) (c .at) (now (d .exit)) r ⌝ }
+fn put_middle(d: &mut [u8], c: Cursor, x: Context, h: SliceHeader, n0: u32, n1: u32) -> Cursor
+    ensures { λ r. ⌜ PutTo (middle x (h .«slice_type») n0 n1) (ofHeader h .1 .1 .1 .1) (now (d .entry)) (c .at) (now (d .exit)) r ⌝ }
 {
-    let a1 = put_modifications(d, c, x, h.slice_type, h.modifications);
-    let Wrote::At(c1) = a1 else {
-        return a1;
-    };
-    let a2 = put_pred_weight_table(d, c1, x, h.slice_type, n0, n1, h.pred_weight_table);
-    let Wrote::At(c2) = a2 else {
-        return a2;
-    };
-    let a3 = put_marking(d, c2, x, h.dec_ref_pic_marking);
-    let Wrote::At(c3) = a3 else {
-        return a3;
-    };
+    let c1 = put_modifications(d, c, x, h.slice_type, h.modifications);
+    let c2 = put_pred_weight_table(d, c1, x, h.slice_type, n0, n1, h.pred_weight_table);
+    let c3 = put_marking(d, c2, x, h.dec_ref_pic_marking);
     put_back(d, c3, x, h)
 }
 
 // All that follows pic_parameter_set_id.
-fn put_parts(d: &mut [u8], c: Cursor, x: Context, h: SliceHeader) -> Wrote
+fn put_parts(d: &mut [u8], c: Cursor, x: Context, h: SliceHeader) -> Cursor
     requires { ⌜ (x .picture .«num_ref_idx_l0_default_active_minus1» ≤ 31) × (x .picture .«num_ref_idx_l1_default_active_minus1» ≤ 31) ⌝ }
-    ensures { λ r. ⌜ Put (parts x (h .«slice_type»)) (ofHeader h .1) (now (d .entry)) (c .at) (now (d .exit)) r ⌝ }
+    ensures { λ r. ⌜ PutTo (parts x (h .«slice_type»)) (ofHeader h .1) (now (d .entry)) (c .at) (now (d .exit)) r ⌝ }
 {
-    let a1 = put_frame(d, c, x, h.frame);
-    let Wrote::At(c1) = a1 else {
-        return a1;
-    };
-    let a2 = put_order_count(d, c1, x, h.frame.field_pic_flag.value, h.order_count);
-    let Wrote::At(c2) = a2 else {
-        return a2;
-    };
-    let counts = h.active_counts;
-    let a3 = put_active_counts(d, c2, h.slice_type, counts);
-    let Wrote::At(c3) = a3 else {
-        return a3;
-    };
+    let c1 = put_frame(d, c, x, h.frame);
+    let c2 = put_order_count(d, c1, x, h.frame.field_pic_flag.value, h.order_count);
+    let c3 = put_active_counts(d, c2, h.slice_type, h.active_counts);
     let n0 = active(
-        counts.num_ref_idx_l0_active_minus1,
+        h.active_counts.num_ref_idx_l0_active_minus1,
         x.picture.num_ref_idx_l0_default_active_minus1,
     );
     let n1 = active(
-        counts.num_ref_idx_l1_active_minus1,
+        h.active_counts.num_ref_idx_l1_active_minus1,
         x.picture.num_ref_idx_l1_default_active_minus1,
     );
     put_middle(d, c3, x, h, n0, n1)
@@ -108,9 +84,6 @@ pub(crate) fn put_header(d: &mut [u8], x: Context, h: SliceHeader) -> Wrote
     requires { ⌜ (x .picture .«num_ref_idx_l0_default_active_minus1» ≤ 31) × (x .picture .«num_ref_idx_l1_default_active_minus1» ≤ 31) ⌝ }
     ensures { λ r. ⌜ Put (fields x) (ofHeader h) (now (d .entry)) 0 (now (d .exit)) r ⌝ }
 {
-    let a1 = put_lead(d, h);
-    let Wrote::At(c1) = a1 else {
-        return a1;
-    };
-    put_parts(d, c1, x, h)
+    let c = put_lead(d, h);
+    reached(put_parts(d, c, x, h))
 }

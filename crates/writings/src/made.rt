@@ -1,8 +1,5 @@
 // The record that words tell of.
-use super::operations;
-use super::weights;
 use super::words;
-use super::words::Words;
 use super::words::is_there;
 use super::words::signed_at;
 use super::words::value_at;
@@ -16,33 +13,36 @@ use syntax::record::Filter;
 use syntax::record::Frame;
 use syntax::record::Modification;
 use syntax::record::Modifications;
+use syntax::record::Operations;
 use syntax::record::OrderCount;
 use syntax::record::PredWeightTable;
 use syntax::record::Quantiser;
 use syntax::record::SliceHeader;
+use syntax::record::Weight;
+use syntax::record::WeightList;
 
-fn number(w: Words, i: usize) -> MarkedNumber {
+fn number(w: &[u32; 3456], i: usize) -> MarkedNumber {
     MarkedNumber {
         there: is_there(w, i),
         value: value_at(w, i),
     }
 }
 
-fn signed(w: Words, i: usize) -> MarkedSigned {
+fn signed(w: &[u32; 3456], i: usize) -> MarkedSigned {
     MarkedSigned {
         there: is_there(w, i),
         value: signed_at(w, i),
     }
 }
 
-fn flag(w: Words, i: usize) -> MarkedFlag {
+fn flag(w: &[u32; 3456], i: usize) -> MarkedFlag {
     MarkedFlag {
         there: is_there(w, i),
         value: value_at(w, i) != 0,
     }
 }
 
-fn frame(w: Words) -> Frame {
+fn frame(w: &[u32; 3456]) -> Frame {
     Frame {
         colour_plane_id: number(w, words::COLOUR_PLANE),
         frame_num: value_at(w, words::FRAME_NUM),
@@ -52,7 +52,7 @@ fn frame(w: Words) -> Frame {
     }
 }
 
-fn deltas(w: Words) -> Deltas {
+fn deltas(w: &[u32; 3456]) -> Deltas {
     Deltas {
         there: is_there(w, words::DELTA_0),
         first: signed_at(w, words::DELTA_0),
@@ -60,7 +60,7 @@ fn deltas(w: Words) -> Deltas {
     }
 }
 
-fn order_count(w: Words) -> OrderCount {
+fn order_count(w: &[u32; 3456]) -> OrderCount {
     OrderCount {
         pic_order_cnt_lsb: number(w, words::ORDER_LSB),
         delta_pic_order_cnt_bottom: signed(w, words::DELTA_BOTTOM),
@@ -69,7 +69,7 @@ fn order_count(w: Words) -> OrderCount {
     }
 }
 
-fn active_counts(w: Words) -> ActiveCounts {
+fn active_counts(w: &[u32; 3456]) -> ActiveCounts {
     ActiveCounts {
         direct_spatial_mv_pred_flag: flag(w, words::DIRECT),
         num_ref_idx_active_override_flag: flag(w, words::OVERRIDE),
@@ -78,40 +78,90 @@ fn active_counts(w: Words) -> ActiveCounts {
     }
 }
 
-fn modification(w: Words, has: usize, list: usize) -> Modification {
-    Modification {
-        flag: flag(w, has),
-        operations: operations::list(value_at(w, list)),
+fn slot(list: u32, field: u32, i: u32) -> usize {
+    list as usize + field as usize + i as usize
+}
+
+// 66 numbers of a list.
+fn column(w: &[u32; 3456], list: u32, field: u32) -> [u32; 66] {
+    let mut a = [0u32; 66];
+    let mut i: u32 = 0;
+    while i < 66 {
+        a[i as usize] = value_at(w, slot(list, field, i));
+        i += 1;
+    }
+    a
+}
+
+fn operations(w: &[u32; 3456], count: usize, list: u32) -> Operations {
+    Operations {
+        count: value_at(w, count),
+        codes: column(w, list, 0),
+        first: column(w, list, 66),
+        second: column(w, list, 132),
     }
 }
 
-fn modifications(w: Words) -> Modifications {
+fn modifications(w: &[u32; 3456]) -> Modifications {
     Modifications {
-        l0: modification(w, words::FLAG_0, words::LIST_0),
-        l1: modification(w, words::FLAG_1, words::LIST_1),
+        l0: Modification {
+            flag: flag(w, words::FLAG_0),
+            operations: operations(w, words::COUNT_0, words::LIST_0),
+        },
+        l1: Modification {
+            flag: flag(w, words::FLAG_1),
+            operations: operations(w, words::COUNT_1, words::LIST_1),
+        },
     }
 }
 
-fn pred_weight_table(w: Words) -> PredWeightTable {
+fn weight(w: &[u32; 3456], list: u32, i: u32) -> Weight {
+    Weight {
+        luma_weight_flag: value_at(w, slot(list, 0, i)) != 0,
+        luma_weight: signed_at(w, slot(list, 32, i)),
+        luma_offset: signed_at(w, slot(list, 64, i)),
+        chroma_weight_flag: value_at(w, slot(list, 96, i)) != 0,
+        cb_weight: signed_at(w, slot(list, 128, i)),
+        cb_offset: signed_at(w, slot(list, 160, i)),
+        cr_weight: signed_at(w, slot(list, 192, i)),
+        cr_offset: signed_at(w, slot(list, 224, i)),
+    }
+}
+
+fn weights(w: &[u32; 3456], count: usize, list: u32) -> WeightList {
+    let zero = weight(w, list, 0);
+    let mut entries = [zero; 32];
+    let mut i: u32 = 0;
+    while i < 32 {
+        entries[i as usize] = weight(w, list, i);
+        i += 1;
+    }
+    WeightList {
+        count: value_at(w, count),
+        entries,
+    }
+}
+
+fn pred_weight_table(w: &[u32; 3456]) -> PredWeightTable {
     PredWeightTable {
         there: is_there(w, words::LUMA_DENOM),
         luma_log2_weight_denom: value_at(w, words::LUMA_DENOM),
         chroma_log2_weight_denom: number(w, words::CHROMA_DENOM),
-        l0: weights::list(value_at(w, words::WEIGHTS_0)),
-        l1: weights::list(value_at(w, words::WEIGHTS_1)),
+        l0: weights(w, words::WEIGHT_COUNT_0, words::WEIGHTS_0),
+        l1: weights(w, words::WEIGHT_COUNT_1, words::WEIGHTS_1),
     }
 }
 
-fn marking(w: Words) -> DecRefPicMarking {
+fn marking(w: &[u32; 3456]) -> DecRefPicMarking {
     DecRefPicMarking {
         no_output_of_prior_pics_flag: flag(w, words::NO_OUTPUT),
         long_term_reference_flag: flag(w, words::LONG_TERM),
         adaptive_ref_pic_marking_mode_flag: flag(w, words::ADAPTIVE),
-        operations: operations::list(value_at(w, words::MARKING)),
+        operations: operations(w, words::MARKING_COUNT, words::MARKING),
     }
 }
 
-fn quantiser(w: Words) -> Quantiser {
+fn quantiser(w: &[u32; 3456]) -> Quantiser {
     Quantiser {
         cabac_init_idc: number(w, words::CABAC),
         slice_qp_delta: signed_at(w, words::QP_DELTA),
@@ -120,7 +170,7 @@ fn quantiser(w: Words) -> Quantiser {
     }
 }
 
-fn filter(w: Words) -> Filter {
+fn filter(w: &[u32; 3456]) -> Filter {
     Filter {
         disable_deblocking_filter_idc: number(w, words::DEBLOCKING),
         slice_alpha_c0_offset_div2: signed(w, words::ALPHA),
@@ -129,7 +179,7 @@ fn filter(w: Words) -> Filter {
     }
 }
 
-pub(crate) fn header(w: Words) -> SliceHeader {
+pub(crate) fn header(w: &[u32; 3456]) -> SliceHeader {
     SliceHeader {
         first_mb_in_slice: value_at(w, words::FIRST_MB),
         slice_type: value_at(w, words::SLICE_TYPE),

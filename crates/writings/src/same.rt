@@ -17,67 +17,51 @@ use syntax::record::SliceHeader;
 use syntax::record::Weight;
 use syntax::record::WeightList;
 
-fn both(a: bool, b: bool) -> bool {
-    if a { b } else { false }
-}
-
-fn bit(a: bool, b: bool) -> bool {
-    if a { b } else { !b }
-}
-
 fn number(a: MarkedNumber, b: MarkedNumber) -> bool {
-    both(bit(a.there, b.there), a.value == b.value)
+    (a.there == b.there) & (a.value == b.value)
 }
 
 fn signed(a: MarkedSigned, b: MarkedSigned) -> bool {
-    both(bit(a.there, b.there), a.value == b.value)
+    (a.there == b.there) & (a.value == b.value)
 }
 
 fn flag(a: MarkedFlag, b: MarkedFlag) -> bool {
-    both(bit(a.there, b.there), bit(a.value, b.value))
+    (a.there == b.there) & (a.value == b.value)
 }
 
 fn frame(a: Frame, b: Frame) -> bool {
-    let plane = number(a.colour_plane_id, b.colour_plane_id);
-    let field = flag(a.field_pic_flag, b.field_pic_flag);
-    let bottom = flag(a.bottom_field_flag, b.bottom_field_flag);
-    let idr = number(a.idr_pic_id, b.idr_pic_id);
-    both(
-        plane,
-        both(a.frame_num == b.frame_num, both(field, both(bottom, idr))),
-    )
+    (a.frame_num == b.frame_num)
+        & number(a.colour_plane_id, b.colour_plane_id)
+        & flag(a.field_pic_flag, b.field_pic_flag)
+        & flag(a.bottom_field_flag, b.bottom_field_flag)
+        & number(a.idr_pic_id, b.idr_pic_id)
 }
 
 fn deltas(a: Deltas, b: Deltas) -> bool {
-    both(
-        bit(a.there, b.there),
-        both(a.first == b.first, a.second == b.second),
-    )
+    (a.there == b.there) & (a.first == b.first) & (a.second == b.second)
 }
 
 fn order_count(a: OrderCount, b: OrderCount) -> bool {
-    let lsb = number(a.pic_order_cnt_lsb, b.pic_order_cnt_lsb);
-    let bottom = signed(a.delta_pic_order_cnt_bottom, b.delta_pic_order_cnt_bottom);
-    let two = deltas(a.delta_pic_order_cnt, b.delta_pic_order_cnt);
-    let redundant = number(a.redundant_pic_cnt, b.redundant_pic_cnt);
-    both(lsb, both(bottom, both(two, redundant)))
+    number(a.pic_order_cnt_lsb, b.pic_order_cnt_lsb)
+        & signed(a.delta_pic_order_cnt_bottom, b.delta_pic_order_cnt_bottom)
+        & deltas(a.delta_pic_order_cnt, b.delta_pic_order_cnt)
+        & number(a.redundant_pic_cnt, b.redundant_pic_cnt)
 }
 
 fn active_counts(a: ActiveCounts, b: ActiveCounts) -> bool {
-    let direct = flag(a.direct_spatial_mv_pred_flag, b.direct_spatial_mv_pred_flag);
-    let own = flag(
-        a.num_ref_idx_active_override_flag,
-        b.num_ref_idx_active_override_flag,
-    );
-    let l0 = number(
-        a.num_ref_idx_l0_active_minus1,
-        b.num_ref_idx_l0_active_minus1,
-    );
-    let l1 = number(
-        a.num_ref_idx_l1_active_minus1,
-        b.num_ref_idx_l1_active_minus1,
-    );
-    both(direct, both(own, both(l0, l1)))
+    flag(a.direct_spatial_mv_pred_flag, b.direct_spatial_mv_pred_flag)
+        & flag(
+            a.num_ref_idx_active_override_flag,
+            b.num_ref_idx_active_override_flag,
+        )
+        & number(
+            a.num_ref_idx_l0_active_minus1,
+            b.num_ref_idx_l0_active_minus1,
+        )
+        & number(
+            a.num_ref_idx_l1_active_minus1,
+            b.num_ref_idx_l1_active_minus1,
+        )
 }
 
 fn numbers(a: &[u32; 66], b: &[u32; 66]) -> bool {
@@ -92,40 +76,29 @@ fn numbers(a: &[u32; 66], b: &[u32; 66]) -> bool {
 }
 
 fn operations(a: Operations, b: Operations) -> bool {
-    let codes = numbers(&a.codes, &b.codes);
-    let first = numbers(&a.first, &b.first);
-    let second = numbers(&a.second, &b.second);
-    both(a.count == b.count, both(codes, both(first, second)))
+    (a.count == b.count)
+        & numbers(&a.codes, &b.codes)
+        & numbers(&a.first, &b.first)
+        & numbers(&a.second, &b.second)
 }
 
 fn modification(a: Modification, b: Modification) -> bool {
-    both(flag(a.flag, b.flag), operations(a.operations, b.operations))
+    flag(a.flag, b.flag) & operations(a.operations, b.operations)
 }
 
 fn modifications(a: Modifications, b: Modifications) -> bool {
-    both(modification(a.l0, b.l0), modification(a.l1, b.l1))
-}
-
-fn luma(a: Weight, b: Weight) -> bool {
-    let there = bit(a.luma_weight_flag, b.luma_weight_flag);
-    both(
-        there,
-        both(
-            a.luma_weight == b.luma_weight,
-            a.luma_offset == b.luma_offset,
-        ),
-    )
-}
-
-fn chroma(a: Weight, b: Weight) -> bool {
-    let there = bit(a.chroma_weight_flag, b.chroma_weight_flag);
-    let cb = both(a.cb_weight == b.cb_weight, a.cb_offset == b.cb_offset);
-    let cr = both(a.cr_weight == b.cr_weight, a.cr_offset == b.cr_offset);
-    both(there, both(cb, cr))
+    modification(a.l0, b.l0) & modification(a.l1, b.l1)
 }
 
 fn weight(a: Weight, b: Weight) -> bool {
-    both(luma(a, b), chroma(a, b))
+    (a.luma_weight_flag == b.luma_weight_flag)
+        & (a.luma_weight == b.luma_weight)
+        & (a.luma_offset == b.luma_offset)
+        & (a.chroma_weight_flag == b.chroma_weight_flag)
+        & (a.cb_weight == b.cb_weight)
+        & (a.cb_offset == b.cb_offset)
+        & (a.cr_weight == b.cr_weight)
+        & (a.cr_offset == b.cr_offset)
 }
 
 fn weights(a: WeightList, b: WeightList) -> bool {
@@ -144,87 +117,55 @@ fn weights(a: WeightList, b: WeightList) -> bool {
     true
 }
 
-fn denominators(a: PredWeightTable, b: PredWeightTable) -> bool {
-    let chroma = number(a.chroma_log2_weight_denom, b.chroma_log2_weight_denom);
-    let luma = a.luma_log2_weight_denom == b.luma_log2_weight_denom;
-    both(bit(a.there, b.there), both(luma, chroma))
-}
-
 fn pred_weight_table(a: PredWeightTable, b: PredWeightTable) -> bool {
-    both(
-        denominators(a, b),
-        both(weights(a.l0, b.l0), weights(a.l1, b.l1)),
-    )
+    (a.there == b.there)
+        & (a.luma_log2_weight_denom == b.luma_log2_weight_denom)
+        & number(a.chroma_log2_weight_denom, b.chroma_log2_weight_denom)
+        & weights(a.l0, b.l0)
+        & weights(a.l1, b.l1)
 }
 
 fn marking(a: DecRefPicMarking, b: DecRefPicMarking) -> bool {
-    let no_output = flag(
+    flag(
         a.no_output_of_prior_pics_flag,
         b.no_output_of_prior_pics_flag,
-    );
-    let long_term = flag(a.long_term_reference_flag, b.long_term_reference_flag);
-    let adaptive = flag(
-        a.adaptive_ref_pic_marking_mode_flag,
-        b.adaptive_ref_pic_marking_mode_flag,
-    );
-    let list = operations(a.operations, b.operations);
-    both(no_output, both(long_term, both(adaptive, list)))
+    )
+        & flag(a.long_term_reference_flag, b.long_term_reference_flag)
+        & flag(
+            a.adaptive_ref_pic_marking_mode_flag,
+            b.adaptive_ref_pic_marking_mode_flag,
+        )
+        & operations(a.operations, b.operations)
 }
 
 fn quantiser(a: Quantiser, b: Quantiser) -> bool {
-    let cabac = number(a.cabac_init_idc, b.cabac_init_idc);
-    let switch = flag(a.sp_for_switch_flag, b.sp_for_switch_flag);
-    let qs = signed(a.slice_qs_delta, b.slice_qs_delta);
-    both(
-        cabac,
-        both(a.slice_qp_delta == b.slice_qp_delta, both(switch, qs)),
-    )
+    (a.slice_qp_delta == b.slice_qp_delta)
+        & number(a.cabac_init_idc, b.cabac_init_idc)
+        & flag(a.sp_for_switch_flag, b.sp_for_switch_flag)
+        & signed(a.slice_qs_delta, b.slice_qs_delta)
 }
 
 fn filter(a: Filter, b: Filter) -> bool {
-    let idc = number(
+    number(
         a.disable_deblocking_filter_idc,
         b.disable_deblocking_filter_idc,
-    );
-    let alpha = signed(a.slice_alpha_c0_offset_div2, b.slice_alpha_c0_offset_div2);
-    let beta = signed(a.slice_beta_offset_div2, b.slice_beta_offset_div2);
-    let cycle = number(a.slice_group_change_cycle, b.slice_group_change_cycle);
-    both(idc, both(alpha, both(beta, cycle)))
-}
-
-fn lead(a: SliceHeader, b: SliceHeader) -> bool {
-    let place = both(
-        a.first_mb_in_slice == b.first_mb_in_slice,
-        a.slice_type == b.slice_type,
-    );
-    let sequence = a.seq_parameter_set_id == b.seq_parameter_set_id;
-    both(
-        place,
-        both(a.pic_parameter_set_id == b.pic_parameter_set_id, sequence),
     )
-}
-
-fn front(a: SliceHeader, b: SliceHeader) -> bool {
-    let f = frame(a.frame, b.frame);
-    let o = order_count(a.order_count, b.order_count);
-    let c = active_counts(a.active_counts, b.active_counts);
-    both(lead(a, b), both(f, both(o, c)))
-}
-
-fn middle(a: SliceHeader, b: SliceHeader) -> bool {
-    let m = modifications(a.modifications, b.modifications);
-    let w = pred_weight_table(a.pred_weight_table, b.pred_weight_table);
-    let d = marking(a.dec_ref_pic_marking, b.dec_ref_pic_marking);
-    both(m, both(w, d))
-}
-
-fn back(a: SliceHeader, b: SliceHeader) -> bool {
-    both(
-        quantiser(a.quantiser, b.quantiser),
-        filter(a.filter, b.filter),
-    )
+        & signed(a.slice_alpha_c0_offset_div2, b.slice_alpha_c0_offset_div2)
+        & signed(a.slice_beta_offset_div2, b.slice_beta_offset_div2)
+        & number(a.slice_group_change_cycle, b.slice_group_change_cycle)
 }
 
 pub(crate) fn header(a: SliceHeader, b: SliceHeader) -> bool {
-    both(front(a, b), both(middle(a, b), back(a, b)))
+    (a.first_mb_in_slice == b.first_mb_in_slice)
+        & (a.slice_type == b.slice_type)
+        & (a.pic_parameter_set_id == b.pic_parameter_set_id)
+        & (a.seq_parameter_set_id == b.seq_parameter_set_id)
+        & frame(a.frame, b.frame)
+        & order_count(a.order_count, b.order_count)
+        & active_counts(a.active_counts, b.active_counts)
+        & modifications(a.modifications, b.modifications)
+        & pred_weight_table(a.pred_weight_table, b.pred_weight_table)
+        & marking(a.dec_ref_pic_marking, b.dec_ref_pic_marking)
+        & quantiser(a.quantiser, b.quantiser)
+        & filter(a.filter, b.filter)
 }

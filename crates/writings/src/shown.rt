@@ -1,14 +1,10 @@
 // A record's line: the writer's answer, the bytes, and whether the unit that they make reads back as the record.
 use super::built;
-use super::made;
 use super::same;
-use super::sets;
 use super::show;
-use super::words::Words;
 use bits::put::put_bits;
 use bits::read::Cursor;
 use syntax::record::SliceHeader;
-use table::table::Table;
 use unit::answer::UnitAnswer;
 use unit::unit::read_unit_in;
 use writer::given::ExtensionGiven;
@@ -21,24 +17,17 @@ pub(crate) struct Start {
     pub(crate) extension: ExtensionGiven,
 }
 
-pub(crate) fn plain(first: u8) -> Start {
-    Start {
-        first,
-        extension: ExtensionGiven {
-            there: false,
-            b1: 0,
-            b2: 0,
-            b3: 0,
-        },
-    }
+fn byte(n: u32) -> u8 {
+    (n % 256) as u8
 }
 
-pub(crate) fn extended(first: u8, b1: u8) -> Start {
+// The extension, or none, has the bytes b1, 0 and 1.
+pub(crate) fn started(first: u32, there: u32, b1: u32) -> Start {
     Start {
-        first,
+        first: byte(first),
         extension: ExtensionGiven {
-            there: true,
-            b1,
+            there: there != 0,
+            b1: byte(b1),
             b2: 0,
             b3: 1,
         },
@@ -110,65 +99,82 @@ fn told(answer: UnitAnswer, bits: usize, is_same: bool) {
 }
 
 // The first n bytes read as a unit, and its record compared.
-fn read_part(t: Table, u: &[u8], n: usize, h: SliceHeader, bits: usize) {
+fn read_part<'a>(
+    sequences: &'a [u32; 224],
+    pictures: &'a [u32; 2048],
+    u: &[u8],
+    n: usize,
+    h: SliceHeader,
+    bits: usize,
+) {
     if n <= u.len() {
         let mut scratch = [0u8; 9216];
-        let r = read_unit_in(&t.sequences, &t.pictures, &u[..n], &mut scratch);
+        let r = read_unit_in(sequences, pictures, &u[..n], &mut scratch);
         let answer = r.answer;
         show::text(b" back=");
         told(answer, bits, same::header(r.header, h));
     }
 }
 
-fn read_back(t: Table, u: &[u8; 9216], n: usize, h: SliceHeader, bits: usize) {
-    read_part(t, u, n, h, bits);
+fn read_back<'a>(
+    sequences: &'a [u32; 224],
+    pictures: &'a [u32; 2048],
+    u: &[u8; 9216],
+    n: usize,
+    h: SliceHeader,
+    bits: usize,
+) {
+    read_part(sequences, pictures, u, n, h, bits);
 }
 
 // Nine set bits follow the header, and so something after the first bit.
-fn back(t: Table, s: Start, h: SliceHeader, d: &mut [u8; 6144], bits: usize) {
+fn back<'a>(
+    sequences: &'a [u32; 224],
+    pictures: &'a [u32; 2048],
+    s: Start,
+    h: SliceHeader,
+    d: &mut [u8; 6144],
+    bits: usize,
+) {
     put_bits(d, Cursor { at: bits }, 9, 511);
     let mut u = [0u8; 9216];
     let n = built::unit(&mut u, s.first, s.extension, d, bits / 8 + 3);
-    read_back(t, &u, n, h, bits);
-}
-
-fn answered(t: Table, s: Start, h: SliceHeader, d: &mut [u8; 6144], a: HeaderWrote) {
-    match a {
-        HeaderWrote::Bits(n) => {
-            bytes(d, n);
-            back(t, s, h, d, n);
-        }
-        HeaderWrote::Refused(r) => {
-            show::refusal(r);
-            kept(d, 0);
-        }
-    }
-    show::text(b"\n");
+    read_back(sequences, pictures, &u, n, h, bits);
 }
 
 // The first `room` bytes of the buffer are lent, or all of it.
-fn written(t: Table, s: Start, h: SliceHeader, d: &mut [u8], room: usize) -> HeaderWrote {
-    let x = s.extension;
+fn written<'a>(
+    sequences: &'a [u32; 224],
+    pictures: &'a [u32; 2048],
+    s: Start,
+    h: SliceHeader,
+    d: &mut [u8],
+    room: usize,
+) -> HeaderWrote {
     if room <= d.len() {
-        return write_header_in(&t.sequences, &t.pictures, s.first, x, h, &mut d[..room]);
+        return write_header_in(sequences, pictures, s.first, s.extension, h, &mut d[..room]);
     }
-    write_header_in(&t.sequences, &t.pictures, s.first, x, h, d)
-}
-
-fn line(s: Start, h: SliceHeader, room: usize) {
-    let t = sets::all();
-    let mut d = [0xa5u8; 6144];
-    let a = written(t, s, h, &mut d, room);
-    answered(t, s, h, &mut d, a);
+    write_header_in(sequences, pictures, s.first, s.extension, h, d)
 }
 
 // A record written into the first `room` bytes of a buffer that is filled with a5.
-pub(crate) fn within(name: &[u8], s: Start, w: Words, room: usize) {
-    show::text(name);
-    show::text(b": ");
-    line(s, made::header(w), room);
-}
-
-pub(crate) fn shown(name: &[u8], s: Start, w: Words) {
-    within(name, s, w, 6144);
+pub(crate) fn line<'a>(
+    sequences: &'a [u32; 224],
+    pictures: &'a [u32; 2048],
+    s: Start,
+    h: SliceHeader,
+    room: usize,
+) {
+    let mut d = [0xa5u8; 6144];
+    match written(sequences, pictures, s, h, &mut d, room) {
+        HeaderWrote::Bits(n) => {
+            bytes(&d, n);
+            back(sequences, pictures, s, h, &mut d, n);
+        }
+        HeaderWrote::Refused(r) => {
+            show::refusal(r);
+            kept(&d, 0);
+        }
+    }
+    show::text(b"\n");
 }

@@ -1,4 +1,6 @@
-// A record as words, for its scalar fields: a mark, an unsigned value and a signed one for each. The lists are named by a number.
+// A record as words: each field has a slot, with a mark, a sign and a size.
+use super::numbers::Number;
+
 pub(crate) const FIRST_MB: usize = 0;
 
 pub(crate) const SLICE_TYPE: usize = 1;
@@ -65,75 +67,66 @@ pub(crate) const BETA: usize = 31;
 
 pub(crate) const CHANGE_CYCLE: usize = 32;
 
-// Which lists of `operations` and `weights` the record has.
-pub(crate) const LIST_0: usize = 33;
+// How many entries the lists have.
+pub(crate) const COUNT_0: usize = 33;
 
-pub(crate) const LIST_1: usize = 34;
+pub(crate) const COUNT_1: usize = 34;
 
-pub(crate) const MARKING: usize = 35;
+pub(crate) const MARKING_COUNT: usize = 35;
 
-pub(crate) const WEIGHTS_0: usize = 36;
+pub(crate) const WEIGHT_COUNT_0: usize = 36;
 
-pub(crate) const WEIGHTS_1: usize = 37;
+pub(crate) const WEIGHT_COUNT_1: usize = 37;
 
-pub(crate) struct Words {
-    pub(crate) marks: [bool; 40],
-    pub(crate) numbers: [u32; 40],
-    pub(crate) signed: [i32; 40],
-}
+// Where lists start: 66 codes, 66 first operands and 66 second ones.
+pub(crate) const LIST_0: u32 = 40;
 
-// Nothing there.
-pub(crate) fn none() -> Words {
-    Words {
-        marks: [false; 40],
-        numbers: [0; 40],
-        signed: [0; 40],
+pub(crate) const LIST_1: u32 = 238;
+
+pub(crate) const MARKING: u32 = 436;
+
+// And those of weights: 32 of each of an entry's eight fields.
+pub(crate) const WEIGHTS_0: u32 = 640;
+
+pub(crate) const WEIGHTS_1: u32 = 896;
+
+// 1,152 marks, as many signs and as many sizes.
+pub(crate) fn put(w: &mut [u32; 3456], slot: usize, mark: u32, v: Number) {
+    if slot < 1152 {
+        w[slot] = mark;
+        w[slot + 1152] = sign(v.negative);
+        w[slot + 2304] = v.size;
     }
 }
 
-// A value, whatever its mark.
-pub(crate) fn value(w: Words, i: usize, v: u32) -> Words {
-    let mut g = w;
-    if i < 40 {
-        g.numbers[i] = v;
+fn sign(negative: bool) -> u32 {
+    if negative { 1 } else { 0 }
+}
+
+pub(crate) fn is_there(w: &[u32; 3456], slot: usize) -> bool {
+    if slot < 1152 { w[slot] != 0 } else { false }
+}
+
+fn is_negative(w: &[u32; 3456], slot: usize) -> bool {
+    if slot < 1152 {
+        w[slot + 1152] != 0
+    } else {
+        false
     }
-    g
 }
 
-pub(crate) fn mark(w: Words, i: usize, there: bool) -> Words {
-    let mut g = w;
-    if i < 40 {
-        g.marks[i] = there;
+pub(crate) fn value_at(w: &[u32; 3456], slot: usize) -> u32 {
+    if slot < 1152 { w[slot + 2304] } else { 0 }
+}
+
+fn signed(negative: bool, size: u32) -> i32 {
+    if size == 2147483648 {
+        return -2147483648;
     }
-    g
+    let z = (size % 2147483648) as i32;
+    if negative { -z } else { z }
 }
 
-// A field that is there.
-pub(crate) fn put(w: Words, i: usize, v: u32) -> Words {
-    mark(value(w, i, v), i, true)
-}
-
-pub(crate) fn put_signed(w: Words, i: usize, z: i32) -> Words {
-    let mut g = mark(w, i, true);
-    if i < 40 {
-        g.signed[i] = z;
-    }
-    g
-}
-
-// A field that is not there.
-pub(crate) fn absent(w: Words, i: usize) -> Words {
-    mark(value(w, i, 0), i, false)
-}
-
-pub(crate) fn is_there(w: Words, i: usize) -> bool {
-    if i < 40 { w.marks[i] } else { false }
-}
-
-pub(crate) fn value_at(w: Words, i: usize) -> u32 {
-    if i < 40 { w.numbers[i] } else { 0 }
-}
-
-pub(crate) fn signed_at(w: Words, i: usize) -> i32 {
-    if i < 40 { w.signed[i] } else { 0 }
+pub(crate) fn signed_at(w: &[u32; 3456], slot: usize) -> i32 {
+    signed(is_negative(w, slot), value_at(w, slot))
 }

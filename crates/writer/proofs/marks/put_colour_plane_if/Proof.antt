@@ -7,11 +7,8 @@ use Rattle.writer.proofs.marks.put_colour_plane_if.Tie as tie
 fitting-requires : tie.Need-fitting-requires
 fitting-requires c κs = search needs
 
-refuse-requires : tie.Need-refuse-requires
-refuse-requires c κs = search needs
-
 returns : tie.Need-returns
-returns c = number-unfit _ _ _ (c .before .before .fitting .ensures) (not-true _ (c .before .if1 .taken))
+returns c = number-unfit _ _ _ (c .before .fitting .ensures) (not-true _ (c .if1 .taken))
 
 put-colour-plane-requires : tie.Need-put-colour-plane-requires
 put-colour-plane-requires c κs = search needs
@@ -30,7 +27,6 @@ put-colour-plane-if-spec =
     tie.close
     (tie.spec
     fitting-requires
-    refuse-requires
     returns
     put-colour-plane-requires
     same-length

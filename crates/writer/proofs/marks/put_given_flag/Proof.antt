@@ -12,15 +12,12 @@ same-length c = search needs
 returns : tie.Need-returns
 returns c = given-there _ _ _ _ _ (c .before .before .before .before .if1 .taken) (c .before .before .put-flag .ensures)
 
-refuse-requires : tie.Need-refuse-requires
-refuse-requires c κs = search needs
-
 returns-2 : tie.Need-returns-2
 returns-2 c = given-absent _ _ _ _ _ (c .before .if1 .left) (c .if2 .taken)
 
 returns-3 : tie.Need-returns-3
-returns-3 c = given-unfit _ _ _ _ _ (c .before .before .if1 .left) (c .before .if2 .left)
+returns-3 c = given-unfit _ _ _ _ _ (c .before .if1 .left) (c .if2 .left)
 
 pub put-given-flag-spec : {M : Type 1} → statement M
 put-given-flag-spec =
-    tie.close (tie.spec put-flag-requires same-length returns refuse-requires returns-2 returns-3)
+    tie.close (tie.spec put-flag-requires same-length returns returns-2 returns-3)

@@ -17,14 +17,11 @@ returns c = given-there _ _ _ _ _ (c .before .before .before .before .if1 .taken
 is-zero-requires : tie.Need-is-zero-requires
 is-zero-requires c κs = search needs
 
-refuse-requires : tie.Need-refuse-requires
-refuse-requires c κs = search needs
-
 returns-2 : tie.Need-returns-2
 returns-2 c = given-absent _ _ _ _ _ (c .before .before .if1 .left) (sym (rw (toZ-ofZ (c .before .before .before .before .fits .v)) at (c .before .is-zero .ensures)) ∙ c .if2 .taken)
 
 returns-3 : tie.Need-returns-3
-returns-3 c = given-unfit _ _ _ _ _ (c .before .before .before .if1 .left) (sym (rw (toZ-ofZ (c .before .before .before .before .before .fits .v)) at (c .before .before .is-zero .ensures)) ∙ c .before .if2 .left)
+returns-3 c = given-unfit _ _ _ _ _ (c .before .before .if1 .left) (sym (rw (toZ-ofZ (c .before .before .before .before .fits .v)) at (c .before .is-zero .ensures)) ∙ c .if2 .left)
 
 pub put-given-signed-spec : {M : Type 1} → statement M
 put-given-signed-spec =
@@ -34,6 +31,5 @@ put-given-signed-spec =
     same-length
     returns
     is-zero-requires
-    refuse-requires
     returns-2
     returns-3)

@@ -13,13 +13,10 @@ is-zero-requires c κs = search needs
 fitting-requires : tie.Need-fitting-requires
 fitting-requires c κs = search needs
 
-refuse-requires : tie.Need-refuse-requires
-refuse-requires c κs = search needs
-
 returns : tie.Need-returns
 returns c =
-    let f : SFits w32 (c .before .before .before .before .before .before .args .m .value) = search needs in
-    signed-unfit _ _ _ (rw (c .before .before .before .is-zero .ensures, toZ-ofZ f) at (c .before .before .fitting .ensures)) (not-true _ (c .before .if1 .taken))
+    let f : SFits w32 (c .before .before .before .before .before .args .m .value) = search needs in
+    signed-unfit _ _ _ (rw (c .before .before .is-zero .ensures, toZ-ofZ f) at (c .before .fitting .ensures)) (not-true _ (c .if1 .taken))
 
 put-signed-requires : tie.Need-put-signed-requires
 put-signed-requires c κs = search needs
@@ -43,7 +40,6 @@ put-signed-if-spec =
     (tie.spec
     is-zero-requires
     fitting-requires
-    refuse-requires
     returns
     put-signed-requires
     same-length

@@ -1,5 +1,5 @@
 use Rattle.syntax.specs.Lists.{operands}
-use Rattle.writer.proofs.Stages.{seq-on, seq-out}
+use Rattle.writer.proofs.Stages.{on}
 use borrow.Author.Needs.{needs}
 use Rattle.writer.proofs.operations.put_operands.Statement.{statement}
 use Rattle.writer.proofs.operations.put_operands.Tie as tie
@@ -10,31 +10,18 @@ has-first-requires c κs = search needs
 put-given-requires : tie.Need-put-given-requires
 put-given-requires c κs = search needs
 
-enum-known-a : tie.Need-enum-known-a
-enum-known-a c = search needs
-
-enum-told : tie.Need-enum-told
-enum-told c = search needs
-
-same-length : tie.Need-same-length
-same-length c = search needs
-
-returns : tie.Need-returns
-unfolding operands
-returns c = seq-out _ _ _ _ (c .enum-told .given .1) (rw (c .before .before .before .before .before .has-first .ensures) at (c .before .before .before .before .put-given .ensures))
-
 has-second-requires : tie.Need-has-second-requires
 has-second-requires c κs = search needs
 
 put-given-requires-2 : tie.Need-put-given-requires-2
 put-given-requires-2 c κs = search needs
 
-same-length-2 : tie.Need-same-length-2
-same-length-2 c = search needs
+same-length : tie.Need-same-length
+same-length c = search needs
 
-returns-2 : tie.Need-returns-2
+returns : tie.Need-returns
 unfolding operands
-returns-2 c = seq-on _ _ _ _ (c .before .before .before .before .before .before .a .given .1) (rw (c .before .before .before .before .before .before .before .before .before .before .before .has-first .ensures) at (c .before .before .before .before .before .before .before .before .before .before .put-given .ensures)) (rw (c .before .before .before .has-second .ensures) at (c .before .before .put-given2 .ensures))
+returns c = on _ _ _ _ (rw (c .before .before .before .before .before .before .before .before .has-first .ensures) at (c .before .before .before .before .before .before .before .put-given .ensures)) (rw (c .before .before .before .has-second .ensures) at (c .before .before .put-given2 .ensures))
 
 pub put-operands-spec : {M : Type 1} → statement M
 put-operands-spec =
@@ -42,11 +29,7 @@ put-operands-spec =
     (tie.spec
     has-first-requires
     put-given-requires
-    enum-known-a
-    enum-told
-    same-length
-    returns
     has-second-requires
     put-given-requires-2
-    same-length-2
-    returns-2)
+    same-length
+    returns)

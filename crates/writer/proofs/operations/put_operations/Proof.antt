@@ -4,7 +4,7 @@ use native.Mathlib.Omega.{arith}
 use lib.ListN.{length}
 use borrow.Author.Tests.{not-true, not-false}
 use Rattle.syntax.proofs.Operations.{few-operations}
-use Rattle.writer.proofs.OperationLoop.{Listing, listing-none, untidy, listing-closed, listing-closes, listing-stop, listing-stop-operand, listing-next}
+use Rattle.writer.proofs.OperationLoop.{Listing, listing-none, untidy, listing-closed, listing-closes, listing-next}
 use borrow.Author.Needs.{needs}
 use Rattle.writer.proofs.operations.put_operations.Statement.{statement}
 use Rattle.writer.proofs.operations.put_operations.Tie as tie
@@ -18,11 +18,8 @@ abbrev μ-loop : tie.MeasureT-loop
 is-tidy-requires : tie.Need-is-tidy-requires Inv-loop μ-loop
 is-tidy-requires c κs = search needs
 
-refuse-requires : tie.Need-refuse-requires Inv-loop μ-loop
-refuse-requires c κs = search needs
-
 returns : tie.Need-returns Inv-loop μ-loop
-returns c = untidy (c .before .before .before .before .args .kind) _ _ _ (sym (c .before .before .is-tidy .ensures) ∙ not-true _ (c .before .if1 .taken))
+returns c = untidy (c .before .before .before .args .kind) _ _ _ (sym (c .before .is-tidy .ensures) ∙ not-true _ (c .if1 .taken))
 
 loop-holds : tie.Need-loop-holds Inv-loop μ-loop
 loop-holds c = (refl, listing-none _ _ _ _ (sym (c .before .is-tidy .ensures) ∙ not-false _ (c .if1 .left)))
@@ -36,74 +33,47 @@ mul-code c = let h : c .before .loop .i < 66 = omega (arith, few-operations _ (c
 element-copy-out-code : tie.Need-element-copy-out-code Inv-loop μ-loop
 element-copy-out-code c = omega (arith, few-operations _ (c .before .loop .inv .1 .tidy), c .loop-test .taken)
 
-refuse-requires-2 : tie.Need-refuse-requires-2 Inv-loop μ-loop
-refuse-requires-2 c κs = search needs
-
 same-length : tie.Need-same-length Inv-loop μ-loop
-same-length c = c .before .before .before .before .before .loop .inv .0
+same-length c = c .before .before .before .before .loop .inv .0
 
 returns-2 : tie.Need-returns-2 Inv-loop μ-loop
-returns-2 c = listing-closes _ _ _ _ (c .before .before .before .before .before .loop .inv .1) (c .before .before .before .before .loop-test .taken) (c .before .if2 .taken)
+returns-2 c = listing-closes _ _ _ _ (c .before .before .before .before .loop .inv .1) (c .before .before .before .loop-test .taken) (c .if2 .taken)
 
 put-tested-requires : tie.Need-put-tested-requires Inv-loop μ-loop
 put-tested-requires c κs = search needs
 
-enum-known-a : tie.Need-enum-known-a Inv-loop μ-loop
-enum-known-a c = search needs
-
-enum-told : tie.Need-enum-told Inv-loop μ-loop
-enum-told c = search needs
-
-same-length-2 : tie.Need-same-length-2 Inv-loop μ-loop
-same-length-2 c = c .before .before .before .before .put-tested .kept .0 ∙ c .before .before .before .before .before .before .before .before .before .before .loop .inv .0
-
-returns-3 : tie.Need-returns-3 Inv-loop μ-loop
-returns-3 c = listing-stop _ _ _ _ (c .before .before .before .before .before .before .before .before .before .before .loop .inv .1) (c .before .before .before .before .before .before .before .before .before .loop-test .taken) (c .before .before .before .before .before .before .if2 .left) (c .before .before .before .before .put-tested .ensures) (c .enum-told .given .1)
-
 mul-put-operands : tie.Need-mul-put-operands Inv-loop μ-loop
-mul-put-operands c = let h : c .before .before .before .before .before .before .before .before .before .before .before .before .loop .i < 66 = omega (arith, few-operations _ (c .before .before .before .before .before .before .before .before .before .before .before .before .loop .inv .1 .tidy), c .before .before .before .before .before .before .before .before .before .before .before .loop-test .taken) in search needs
+mul-put-operands c = let h : c .before .before .before .before .before .before .before .before .before .loop .i < 66 = omega (arith, few-operations _ (c .before .before .before .before .before .before .before .before .before .loop .inv .1 .tidy), c .before .before .before .before .before .before .before .before .loop-test .taken) in search needs
 
 element-copy-out-put-operands : tie.Need-element-copy-out-put-operands Inv-loop μ-loop
-element-copy-out-put-operands c = omega (arith, few-operations _ (c .before .before .before .before .before .before .before .before .before .before .before .before .loop .inv .1 .tidy), c .before .before .before .before .before .before .before .before .before .before .before .loop-test .taken)
+element-copy-out-put-operands c = omega (arith, few-operations _ (c .before .before .before .before .before .before .before .before .before .loop .inv .1 .tidy), c .before .before .before .before .before .before .before .before .loop-test .taken)
 
 mul-put-operands-2 : tie.Need-mul-put-operands-2 Inv-loop μ-loop
-mul-put-operands-2 c = let h : c .before .before .before .before .before .before .before .before .before .before .before .before .before .loop .i < 66 = omega (arith, few-operations _ (c .before .before .before .before .before .before .before .before .before .before .before .before .before .loop .inv .1 .tidy), c .before .before .before .before .before .before .before .before .before .before .before .before .loop-test .taken) in search needs
+mul-put-operands-2 c = let h : c .before .before .before .before .before .before .before .before .before .before .loop .i < 66 = omega (arith, few-operations _ (c .before .before .before .before .before .before .before .before .before .before .loop .inv .1 .tidy), c .before .before .before .before .before .before .before .before .before .loop-test .taken) in search needs
 
 element-copy-out-put-operands-2 : tie.Need-element-copy-out-put-operands-2 Inv-loop μ-loop
-element-copy-out-put-operands-2 c = omega (arith, few-operations _ (c .before .before .before .before .before .before .before .before .before .before .before .before .before .loop .inv .1 .tidy), c .before .before .before .before .before .before .before .before .before .before .before .before .loop-test .taken)
+element-copy-out-put-operands-2 c = omega (arith, few-operations _ (c .before .before .before .before .before .before .before .before .before .before .loop .inv .1 .tidy), c .before .before .before .before .before .before .before .before .before .loop-test .taken)
 
 put-operands-requires : tie.Need-put-operands-requires Inv-loop μ-loop
 put-operands-requires c κs = search needs
 
-enum-known-b : tie.Need-enum-known-b Inv-loop μ-loop
-enum-known-b c = search needs
-
-enum-told-2 : tie.Need-enum-told-2 Inv-loop μ-loop
-enum-told-2 c = search needs
-
-same-length-3 : tie.Need-same-length-3 Inv-loop μ-loop
-same-length-3 c = c .before .before .before .before .put-operands .kept .0 ∙ c .before .before .before .before .before .before .before .before .before .before .before .before .before .put-tested .kept .0 ∙ c .before .before .before .before .before .before .before .before .before .before .before .before .before .before .before .before .before .before .before .loop .inv .0
-
-returns-4 : tie.Need-returns-4 Inv-loop μ-loop
-returns-4 c = listing-stop-operand _ _ _ _ (c .before .before .before .before .before .before .before .before .before .before .before .before .before .before .before .before .before .before .before .loop .inv .1) (c .before .before .before .before .before .before .before .before .before .before .before .before .before .before .before .before .before .before .loop-test .taken) (c .before .before .before .before .before .before .before .before .before .before .before .before .before .before .before .if2 .left) (c .before .before .before .before .before .before .before .before .before .before .before .before .before .put-tested .ensures) (c .before .before .before .before .before .before .before .before .before .a .given .1) (c .before .before .before .before .put-operands .ensures) (c .enum-told2 .given .1)
-
 add-i : tie.Need-add-i Inv-loop μ-loop
-add-i c = let h : c .before .before .before .before .before .before .before .before .before .before .before .before .before .before .before .before .before .before .before .before .loop .i < 66 = omega (arith, few-operations _ (c .before .before .before .before .before .before .before .before .before .before .before .before .before .before .before .before .before .before .before .before .loop .inv .1 .tidy), c .before .before .before .before .before .before .before .before .before .before .before .before .before .before .before .before .before .before .before .loop-test .taken) in search needs
+add-i c = let h : c .before .before .before .before .before .before .before .before .before .before .before .before .before .before .loop .i < 66 = omega (arith, few-operations _ (c .before .before .before .before .before .before .before .before .before .before .before .before .before .before .loop .inv .1 .tidy), c .before .before .before .before .before .before .before .before .before .before .before .before .before .loop-test .taken) in search needs
 
 loop-less : tie.Need-loop-less Inv-loop μ-loop
 loop-less c = search needs
 
 loop-again : tie.Need-loop-again Inv-loop μ-loop
-loop-again c = (c .before .before .before .before .before .put-operands .kept .0 ∙ c .before .before .before .before .before .before .before .before .before .before .before .before .before .before .put-tested .kept .0 ∙ c .before .before .before .before .before .before .before .before .before .before .before .before .before .before .before .before .before .before .before .before .loop .inv .0, listing-next _ _ _ _ (c .before .before .before .before .before .before .before .before .before .before .before .before .before .before .before .before .before .before .before .before .loop .inv .1) (c .before .before .before .before .before .before .before .before .before .before .before .before .before .before .before .before .before .before .before .loop-test .taken) (c .before .before .before .before .before .before .before .before .before .before .before .before .before .before .before .before .if2 .left) (c .before .before .before .before .before .before .before .before .before .before .before .before .before .before .put-tested .ensures) (c .before .before .before .before .before .before .before .before .before .before .a .given .1) (c .before .before .before .before .before .put-operands .ensures) (c .before .b .given .1))
+loop-again c = (c .before .before .put-operands .kept .0 ∙ c .before .before .before .before .before .before .before .before .put-tested .kept .0 ∙ c .before .before .before .before .before .before .before .before .before .before .before .before .before .before .loop .inv .0, listing-next _ _ _ _ (c .before .before .before .before .before .before .before .before .before .before .before .before .before .before .loop .inv .1) (c .before .before .before .before .before .before .before .before .before .before .before .before .before .loop-test .taken) (c .before .before .before .before .before .before .before .before .before .before .if2 .left) (c .before .before .before .before .before .before .before .before .put-tested .ensures) (c .before .before .put-operands .ensures))
 
 put-tested-requires-2 : tie.Need-put-tested-requires-2 Inv-loop μ-loop
 put-tested-requires-2 c κs = search needs
 
-same-length-4 : tie.Need-same-length-4 Inv-loop μ-loop
-same-length-4 c = c .before .before .put-tested2 .kept .0 ∙ c .before .before .before .before .before .loop .inv .0
+same-length-2 : tie.Need-same-length-2 Inv-loop μ-loop
+same-length-2 c = c .before .before .put-tested2 .kept .0 ∙ c .before .before .before .before .before .loop .inv .0
 
-returns-5 : tie.Need-returns-5 Inv-loop μ-loop
-returns-5 c = listing-closed _ _ _ _ (c .before .before .before .before .before .loop .inv .1) (c .before .before .before .before .loop-test .left) (c .before .before .put-tested2 .ensures)
+returns-3 : tie.Need-returns-3 Inv-loop μ-loop
+returns-3 c = listing-closed _ _ _ _ (c .before .before .before .before .before .loop .inv .1) (c .before .before .before .before .loop-test .left) (c .before .before .put-tested2 .ensures)
 
 pub put-operations-spec : {M : Type 1} → statement M
 put-operations-spec =
@@ -112,32 +82,22 @@ put-operations-spec =
     Inv-loop
     μ-loop
     is-tidy-requires
-    refuse-requires
     returns
     loop-holds
     cast-k
     mul-code
     element-copy-out-code
-    refuse-requires-2
     same-length
     returns-2
     put-tested-requires
-    enum-known-a
-    enum-told
-    same-length-2
-    returns-3
     mul-put-operands
     element-copy-out-put-operands
     mul-put-operands-2
     element-copy-out-put-operands-2
     put-operands-requires
-    enum-known-b
-    enum-told-2
-    same-length-3
-    returns-4
     add-i
     loop-less
     loop-again
     put-tested-requires-2
-    same-length-4
-    returns-5)
+    same-length-2
+    returns-3)

@@ -18,16 +18,13 @@ returns c = given-there _ _ _ _ _ (c .before .before .before .before .if1 .taken
 is-none-requires : tie.Need-is-none-requires
 is-none-requires c κs = search needs
 
-refuse-requires : tie.Need-refuse-requires
-refuse-requires c κs = search needs
-
 returns-2 : tie.Need-returns-2
 unfolding operationsIf
 returns-2 c = given-absent _ _ _ _ _ (c .before .before .if1 .left) (sym (c .before .is-none .ensures) ∙ c .if2 .taken)
 
 returns-3 : tie.Need-returns-3
 unfolding operationsIf
-returns-3 c = given-unfit _ _ _ _ _ (c .before .before .before .if1 .left) (sym (c .before .before .is-none .ensures) ∙ c .before .if2 .left)
+returns-3 c = given-unfit _ _ _ _ _ (c .before .before .if1 .left) (sym (c .before .is-none .ensures) ∙ c .if2 .left)
 
 pub put-operations-if-spec : {M : Type 1} → statement M
 put-operations-if-spec =
@@ -37,6 +34,5 @@ put-operations-if-spec =
     same-length
     returns
     is-none-requires
-    refuse-requires
     returns-2
     returns-3)

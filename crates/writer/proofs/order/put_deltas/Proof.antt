@@ -4,9 +4,9 @@ use mir.Facts.{toZ-ofZ}
 use mir.Syntax.{w32}
 use mir.Val.{SFits}
 use borrow.Author.Tests.{not-true, not-false}
-use Rattle.fmt.proofs.Puts.{not-good, shaped-put, shaped-none}
+use Rattle.fmt.proofs.Puts.{shaped-none}
 use Rattle.writer.proofs.Fields.{marked, unmarked}
-use Rattle.writer.proofs.Stages.{seq-on, seq-out}
+use Rattle.writer.proofs.Stages.{leads-nowhere, on, shaped-to}
 use Rattle.syntax.specs.SliceHeader.{deltas}
 use borrow.Author.Needs.{needs}
 use Rattle.writer.proofs.order.put_deltas.Statement.{statement}
@@ -15,12 +15,9 @@ use Rattle.writer.proofs.order.put_deltas.Tie as tie
 fitting-requires : tie.Need-fitting-requires
 fitting-requires c κs = search needs
 
-refuse-requires : tie.Need-refuse-requires
-refuse-requires c κs = search needs
-
 returns : tie.Need-returns
 unfolding deltas
-returns c = not-good (deltas (c .before .before .before .before .before .args .x) (c .before .before .before .before .before .args .field)) (c .before .before .before .before .before .args .v) (shaped-none _ _ _ _ _ (unmarked (orderType (c .before .before .before .before .before .args .x) 1) (c .before .before .before .before .before .args .v .there) (c .before .before .fitting .ensures) (not-true _ (c .before .if1 .taken))))
+returns c = leads-nowhere (deltas (c .before .before .before .before .args .x) (c .before .before .before .before .args .field)) (c .before .before .before .before .args .v) (shaped-none _ _ _ _ _ (unmarked (orderType (c .before .before .before .before .args .x) 1) (c .before .before .before .before .args .v .there) (c .before .fitting .ensures) (not-true _ (c .if1 .taken))))
 
 both-requires : tie.Need-both-requires
 both-requires c κs = search needs
@@ -31,52 +28,32 @@ both-requires-2 c κs = search needs
 put-given-signed-requires : tie.Need-put-given-signed-requires
 put-given-signed-requires c κs = search needs
 
-enum-known-a1 : tie.Need-enum-known-a1
-enum-known-a1 c = search needs
-
-enum-told : tie.Need-enum-told
-enum-told c = search needs
-
-same-length : tie.Need-same-length
-same-length c = c .before .before .before .before .put-given-signed .kept .0
-
-returns-2 : tie.Need-returns-2
-unfolding deltas
-returns-2 c =
-    let f : SFits w32 (c .before .before .before .before .before .before .before .before .before .before .before .before .before .before .args .v .first) = search needs in
-    shaped-put _ _ _ _ _ (marked (orderType (c .before .before .before .before .before .before .before .before .before .before .before .before .before .before .args .x) 1) (c .before .before .before .before .before .before .before .before .before .before .before .before .before .before .args .v .there) (c .before .before .before .before .before .before .before .before .before .before .before .fitting .ensures) (not-false _ (c .before .before .before .before .before .before .before .before .before .before .if1 .left))) (seq-out _ _ _ _ (c .enum-told .given .1) (rw (toZ-ofZ f, c .before .before .before .before .before .before .before .before .both .ensures) at (c .before .before .before .before .put-given-signed .ensures)))
-
 both-requires-3 : tie.Need-both-requires-3
 both-requires-3 c κs = search needs
 
 put-given-signed-requires-2 : tie.Need-put-given-signed-requires-2
 put-given-signed-requires-2 c κs = search needs
 
-same-length-2 : tie.Need-same-length-2
-same-length-2 c = c .before .before .put-given-signed2 .kept .0 ∙ c .before .before .before .before .before .before .before .before .before .before .before .put-given-signed .kept .0
+same-length : tie.Need-same-length
+same-length c = c .before .before .put-given-signed2 .kept .0 ∙ c .before .before .before .before .before .before .before .before .put-given-signed .kept .0
 
-returns-3 : tie.Need-returns-3
+returns-2 : tie.Need-returns-2
 unfolding deltas
-returns-3 c =
-    let f : SFits w32 (c .before .before .before .before .before .before .before .before .before .before .before .before .before .before .before .before .before .before .before .before .before .args .v .first) = search needs in
-    let g : SFits w32 (c .before .before .before .before .before .before .before .before .before .before .before .before .before .before .before .before .before .before .before .before .before .args .v .second) = search needs in
-    shaped-put _ _ _ _ _ (marked (orderType (c .before .before .before .before .before .before .before .before .before .before .before .before .before .before .before .before .before .before .before .before .before .args .x) 1) (c .before .before .before .before .before .before .before .before .before .before .before .before .before .before .before .before .before .before .before .before .before .args .v .there) (c .before .before .before .before .before .before .before .before .before .before .before .before .before .before .before .before .before .before .fitting .ensures) (not-false _ (c .before .before .before .before .before .before .before .before .before .before .before .before .before .before .before .before .before .if1 .left))) (seq-on _ _ _ _ (c .before .before .before .before .before .before .before .a1 .given .1) (rw (toZ-ofZ f, c .before .before .before .before .before .before .before .before .before .before .before .before .before .before .before .both .ensures) at (c .before .before .before .before .before .before .before .before .before .before .before .put-given-signed .ensures)) (rw (toZ-ofZ g, c .before .before .before .before .both3 .ensures, c .before .before .before .before .before .before .before .before .before .before .before .before .before .before .before .both .ensures, c .before .before .before .before .before .before .before .before .before .before .before .before .before .before .both2 .ensures) at (c .before .before .put-given-signed2 .ensures)))
+returns-2 c =
+    let f : SFits w32 (c .before .before .before .before .before .before .before .before .before .before .before .before .before .before .before .before .before .before .args .v .first) = search needs in
+    let g : SFits w32 (c .before .before .before .before .before .before .before .before .before .before .before .before .before .before .before .before .before .before .args .v .second) = search needs in
+    shaped-to _ _ _ _ _ (marked (orderType (c .before .before .before .before .before .before .before .before .before .before .before .before .before .before .before .before .before .before .args .x) 1) (c .before .before .before .before .before .before .before .before .before .before .before .before .before .before .before .before .before .before .args .v .there) (c .before .before .before .before .before .before .before .before .before .before .before .before .before .before .before .fitting .ensures) (not-false _ (c .before .before .before .before .before .before .before .before .before .before .before .before .before .before .if1 .left))) (on _ _ _ _ (rw (toZ-ofZ f, c .before .before .before .before .before .before .before .before .before .before .before .before .both .ensures) at (c .before .before .before .before .before .before .before .before .put-given-signed .ensures)) (rw (toZ-ofZ g, c .before .before .before .before .both3 .ensures, c .before .before .before .before .before .before .before .before .before .before .before .before .both .ensures, c .before .before .before .before .before .before .before .before .before .before .before .both2 .ensures) at (c .before .before .put-given-signed2 .ensures)))
 
 pub put-deltas-spec : {M : Type 1} → statement M
 put-deltas-spec =
     tie.close
     (tie.spec
     fitting-requires
-    refuse-requires
     returns
     both-requires
     both-requires-2
     put-given-signed-requires
-    enum-known-a1
-    enum-told
-    same-length
-    returns-2
     both-requires-3
     put-given-signed-requires-2
-    same-length-2
-    returns-3)
+    same-length
+    returns-2)

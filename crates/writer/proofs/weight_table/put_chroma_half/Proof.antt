@@ -3,7 +3,7 @@ use mir.Facts.{toZ-ofZ}
 use mir.Syntax.{w32}
 use mir.Val.{SFits}
 use Rattle.weights.specs.Halves.{chromaHalf}
-use Rattle.writer.proofs.Stages.{seq-on, seq-out}
+use Rattle.writer.proofs.Stages.{on}
 use borrow.Author.Needs.{needs}
 use Rattle.writer.proofs.weight_table.put_chroma_half.Statement.{statement}
 use Rattle.writer.proofs.weight_table.put_chroma_half.Tie as tie
@@ -16,101 +16,33 @@ fit c = (search needs, (search needs, (search needs, search needs)))
 put-given-flag-requires : tie.Need-put-given-flag-requires
 put-given-flag-requires c κs = search needs
 
-enum-known-a1 : tie.Need-enum-known-a1
-enum-known-a1 c = search needs
-
-enum-told : tie.Need-enum-told
-enum-told c = search needs
-
-same-length : tie.Need-same-length
-same-length c = c .before .before .before .before .put-given-flag .kept .0
-
-returns : tie.Need-returns
-unfolding chromaHalf
-returns c = seq-out _ _ _ _ (c .enum-told .given .1) (c .before .before .before .before .put-given-flag .ensures)
-
 put-given-signed-requires : tie.Need-put-given-signed-requires
 put-given-signed-requires c κs = search needs
-
-enum-known-a2 : tie.Need-enum-known-a2
-enum-known-a2 c = search needs
-
-enum-told-2 : tie.Need-enum-told-2
-enum-told-2 c = search needs
-
-same-length-2 : tie.Need-same-length-2
-same-length-2 c = c .before .before .before .before .put-given-signed .kept .0 ∙ c .before .before .before .before .before .before .before .before .before .before .before .before .put-given-flag .kept .0
-
-returns-2 : tie.Need-returns-2
-unfolding chromaHalf
-returns-2 c = seq-on _ _ _ _ (c .before .before .before .before .before .before .before .before .a1 .given .1) (c .before .before .before .before .before .before .before .before .before .before .before .before .put-given-flag .ensures) (seq-out _ _ _ _ (c .enum-told2 .given .1) (rw (toZ-ofZ (fit (c .before .before .before .before .before .before .before .before .before .before .before .before .before .before .before) .0)) at (c .before .before .before .before .put-given-signed .ensures)))
 
 put-given-signed-requires-2 : tie.Need-put-given-signed-requires-2
 put-given-signed-requires-2 c κs = search needs
 
-enum-known-a3 : tie.Need-enum-known-a3
-enum-known-a3 c = search needs
-
-enum-told-3 : tie.Need-enum-told-3
-enum-told-3 c = search needs
-
-same-length-3 : tie.Need-same-length-3
-same-length-3 c = c .before .before .before .before .put-given-signed2 .kept .0 ∙ c .before .before .before .before .before .before .before .before .before .before .before .before .put-given-signed .kept .0 ∙ c .before .before .before .before .before .before .before .before .before .before .before .before .before .before .before .before .before .before .before .before .put-given-flag .kept .0
-
-returns-3 : tie.Need-returns-3
-unfolding chromaHalf
-returns-3 c = seq-on _ _ _ _ (c .before .before .before .before .before .before .before .before .before .before .before .before .before .before .before .before .a1 .given .1) (c .before .before .before .before .before .before .before .before .before .before .before .before .before .before .before .before .before .before .before .before .put-given-flag .ensures) (seq-on _ _ _ _ (c .before .before .before .before .before .before .before .before .a2 .given .1) (rw (toZ-ofZ (fit (c .before .before .before .before .before .before .before .before .before .before .before .before .before .before .before .before .before .before .before .before .before .before .before) .0)) at (c .before .before .before .before .before .before .before .before .before .before .before .before .put-given-signed .ensures)) (seq-out _ _ _ _ (c .enum-told3 .given .1) (rw (toZ-ofZ (fit (c .before .before .before .before .before .before .before .before .before .before .before .before .before .before .before .before .before .before .before .before .before .before .before) .1 .0)) at (c .before .before .before .before .put-given-signed2 .ensures))))
-
 put-given-signed-requires-3 : tie.Need-put-given-signed-requires-3
 put-given-signed-requires-3 c κs = search needs
-
-enum-known-a4 : tie.Need-enum-known-a4
-enum-known-a4 c = search needs
-
-enum-told-4 : tie.Need-enum-told-4
-enum-told-4 c = search needs
-
-same-length-4 : tie.Need-same-length-4
-same-length-4 c = c .before .before .before .before .put-given-signed3 .kept .0 ∙ c .before .before .before .before .before .before .before .before .before .before .before .before .put-given-signed2 .kept .0 ∙ c .before .before .before .before .before .before .before .before .before .before .before .before .before .before .before .before .before .before .before .before .put-given-signed .kept .0 ∙ c .before .before .before .before .before .before .before .before .before .before .before .before .before .before .before .before .before .before .before .before .before .before .before .before .before .before .before .before .put-given-flag .kept .0
-
-returns-4 : tie.Need-returns-4
-unfolding chromaHalf
-returns-4 c = seq-on _ _ _ _ (c .before .before .before .before .before .before .before .before .before .before .before .before .before .before .before .before .before .before .before .before .before .before .before .before .a1 .given .1) (c .before .before .before .before .before .before .before .before .before .before .before .before .before .before .before .before .before .before .before .before .before .before .before .before .before .before .before .before .put-given-flag .ensures) (seq-on _ _ _ _ (c .before .before .before .before .before .before .before .before .before .before .before .before .before .before .before .before .a2 .given .1) (rw (toZ-ofZ (fit (c .before .before .before .before .before .before .before .before .before .before .before .before .before .before .before .before .before .before .before .before .before .before .before .before .before .before .before .before .before .before .before) .0)) at (c .before .before .before .before .before .before .before .before .before .before .before .before .before .before .before .before .before .before .before .before .put-given-signed .ensures)) (seq-on _ _ _ _ (c .before .before .before .before .before .before .before .before .a3 .given .1) (rw (toZ-ofZ (fit (c .before .before .before .before .before .before .before .before .before .before .before .before .before .before .before .before .before .before .before .before .before .before .before .before .before .before .before .before .before .before .before) .1 .0)) at (c .before .before .before .before .before .before .before .before .before .before .before .before .put-given-signed2 .ensures)) (seq-out _ _ _ _ (c .enum-told4 .given .1) (rw (toZ-ofZ (fit (c .before .before .before .before .before .before .before .before .before .before .before .before .before .before .before .before .before .before .before .before .before .before .before .before .before .before .before .before .before .before .before) .1 .1 .0)) at (c .before .before .before .before .put-given-signed3 .ensures)))))
 
 put-given-signed-requires-4 : tie.Need-put-given-signed-requires-4
 put-given-signed-requires-4 c κs = search needs
 
-same-length-5 : tie.Need-same-length-5
-same-length-5 c = c .before .before .put-given-signed4 .kept .0 ∙ c .before .before .before .before .before .before .before .before .before .before .put-given-signed3 .kept .0 ∙ c .before .before .before .before .before .before .before .before .before .before .before .before .before .before .before .before .before .before .put-given-signed2 .kept .0 ∙ c .before .before .before .before .before .before .before .before .before .before .before .before .before .before .before .before .before .before .before .before .before .before .before .before .before .before .put-given-signed .kept .0 ∙ c .before .before .before .before .before .before .before .before .before .before .before .before .before .before .before .before .before .before .before .before .before .before .before .before .before .before .before .before .before .before .before .before .before .before .put-given-flag .kept .0
+same-length : tie.Need-same-length
+same-length c = c .before .before .put-given-signed4 .kept .0 ∙ c .before .before .before .before .before .before .before .put-given-signed3 .kept .0 ∙ c .before .before .before .before .before .before .before .before .before .before .before .before .put-given-signed2 .kept .0 ∙ c .before .before .before .before .before .before .before .before .before .before .before .before .before .before .before .before .before .put-given-signed .kept .0 ∙ c .before .before .before .before .before .before .before .before .before .before .before .before .before .before .before .before .before .before .before .before .before .before .put-given-flag .kept .0
 
-returns-5 : tie.Need-returns-5
+returns : tie.Need-returns
 unfolding chromaHalf
-returns-5 c = seq-on _ _ _ _ (c .before .before .before .before .before .before .before .before .before .before .before .before .before .before .before .before .before .before .before .before .before .before .before .before .before .before .before .before .before .before .a1 .given .1) (c .before .before .before .before .before .before .before .before .before .before .before .before .before .before .before .before .before .before .before .before .before .before .before .before .before .before .before .before .before .before .before .before .before .before .put-given-flag .ensures) (seq-on _ _ _ _ (c .before .before .before .before .before .before .before .before .before .before .before .before .before .before .before .before .before .before .before .before .before .before .a2 .given .1) (rw (toZ-ofZ (fit (c .before .before .before .before .before .before .before .before .before .before .before .before .before .before .before .before .before .before .before .before .before .before .before .before .before .before .before .before .before .before .before .before .before .before .before .before .before) .0)) at (c .before .before .before .before .before .before .before .before .before .before .before .before .before .before .before .before .before .before .before .before .before .before .before .before .before .before .put-given-signed .ensures)) (seq-on _ _ _ _ (c .before .before .before .before .before .before .before .before .before .before .before .before .before .before .a3 .given .1) (rw (toZ-ofZ (fit (c .before .before .before .before .before .before .before .before .before .before .before .before .before .before .before .before .before .before .before .before .before .before .before .before .before .before .before .before .before .before .before .before .before .before .before .before .before) .1 .0)) at (c .before .before .before .before .before .before .before .before .before .before .before .before .before .before .before .before .before .before .put-given-signed2 .ensures)) (seq-on _ _ _ _ (c .before .before .before .before .before .before .a4 .given .1) (rw (toZ-ofZ (fit (c .before .before .before .before .before .before .before .before .before .before .before .before .before .before .before .before .before .before .before .before .before .before .before .before .before .before .before .before .before .before .before .before .before .before .before .before .before) .1 .1 .0)) at (c .before .before .before .before .before .before .before .before .before .before .put-given-signed3 .ensures)) (rw (toZ-ofZ (fit (c .before .before .before .before .before .before .before .before .before .before .before .before .before .before .before .before .before .before .before .before .before .before .before .before .before .before .before .before .before .before .before .before .before .before .before .before .before) .1 .1 .1)) at (c .before .before .put-given-signed4 .ensures)))))
+returns c = on _ _ _ _ (c .before .before .before .before .before .before .before .before .before .before .before .before .before .before .before .before .before .before .before .before .before .before .put-given-flag .ensures) (on _ _ _ _ (rw (toZ-ofZ (fit (c .before .before .before .before .before .before .before .before .before .before .before .before .before .before .before .before .before .before .before .before .before .before .before .before .before) .0)) at (c .before .before .before .before .before .before .before .before .before .before .before .before .before .before .before .before .before .put-given-signed .ensures)) (on _ _ _ _ (rw (toZ-ofZ (fit (c .before .before .before .before .before .before .before .before .before .before .before .before .before .before .before .before .before .before .before .before .before .before .before .before .before) .1 .0)) at (c .before .before .before .before .before .before .before .before .before .before .before .before .put-given-signed2 .ensures)) (on _ _ _ _ (rw (toZ-ofZ (fit (c .before .before .before .before .before .before .before .before .before .before .before .before .before .before .before .before .before .before .before .before .before .before .before .before .before) .1 .1 .0)) at (c .before .before .before .before .before .before .before .put-given-signed3 .ensures)) (rw (toZ-ofZ (fit (c .before .before .before .before .before .before .before .before .before .before .before .before .before .before .before .before .before .before .before .before .before .before .before .before .before) .1 .1 .1)) at (c .before .before .put-given-signed4 .ensures)))))
 
 pub put-chroma-half-spec : {M : Type 1} → statement M
 put-chroma-half-spec =
     tie.close
     (tie.spec
     put-given-flag-requires
-    enum-known-a1
-    enum-told
-    same-length
-    returns
     put-given-signed-requires
-    enum-known-a2
-    enum-told-2
-    same-length-2
-    returns-2
     put-given-signed-requires-2
-    enum-known-a3
-    enum-told-3
-    same-length-3
-    returns-3
     put-given-signed-requires-3
-    enum-known-a4
-    enum-told-4
-    same-length-4
-    returns-4
     put-given-signed-requires-4
-    same-length-5
-    returns-5)
+    same-length
+    returns)

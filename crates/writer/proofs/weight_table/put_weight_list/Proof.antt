@@ -3,7 +3,7 @@ use mathlib.Core.Path.{_≡_, refl, sym, _∙_}
 use native.Mathlib.Omega.{arith}
 use lib.ListN.{length}
 use borrow.Author.Tests.{not-true, not-false}
-use Rattle.writer.proofs.WeightLoop.{Weighing, weighing-none, unfitting, weighing-few, weighing-all, weighing-stop, weighing-next}
+use Rattle.writer.proofs.WeightLoop.{Weighing, weighing-none, unfitting, weighing-few, weighing-all, weighing-next}
 use borrow.Author.Needs.{needs}
 use Rattle.writer.proofs.weight_table.put_weight_list.Statement.{statement}
 use Rattle.writer.proofs.weight_table.put_weight_list.Tie as tie
@@ -20,11 +20,8 @@ is-tidy-requires c κs = search needs
 both-requires : tie.Need-both-requires Inv-loop μ-loop
 both-requires c κs = search needs
 
-refuse-requires : tie.Need-refuse-requires Inv-loop μ-loop
-refuse-requires c κs = search needs
-
 returns : tie.Need-returns Inv-loop μ-loop
-returns c = unfitting _ _ _ _ _ (sym (rw (c .before .before .before .is-tidy .ensures) at (c .before .before .both .ensures)) ∙ not-true _ (c .before .if1 .taken))
+returns c = unfitting _ _ _ _ _ (sym (rw (c .before .before .is-tidy .ensures) at (c .before .both .ensures)) ∙ not-true _ (c .if1 .taken))
 
 loop-holds : tie.Need-loop-holds Inv-loop μ-loop
 loop-holds c = (refl, weighing-none _ _ _ _ _ (sym (rw (c .before .before .is-tidy .ensures) at (c .before .both .ensures)) ∙ not-false _ (c .if1 .left)))
@@ -41,32 +38,20 @@ element-copy-out-x c = omega (arith, weighing-few _ _ _ _ _ (c .before .loop .in
 put-weight-requires : tie.Need-put-weight-requires Inv-loop μ-loop
 put-weight-requires c κs = search needs
 
-enum-known-a : tie.Need-enum-known-a Inv-loop μ-loop
-enum-known-a c = search needs
-
-enum-told : tie.Need-enum-told Inv-loop μ-loop
-enum-told c = search needs
-
-same-length : tie.Need-same-length Inv-loop μ-loop
-same-length c = c .before .before .before .before .put-weight .kept .0 ∙ c .before .before .before .before .before .before .before .before .loop .inv .0
-
-returns-2 : tie.Need-returns-2 Inv-loop μ-loop
-returns-2 c = weighing-stop _ _ _ _ _ (c .before .before .before .before .before .before .before .before .loop .inv .1) (c .before .before .before .before .before .before .before .loop-test .taken) _ (c .before .before .before .before .put-weight .ensures) (c .enum-told .given .1)
-
 add-i : tie.Need-add-i Inv-loop μ-loop
-add-i c = let h : c .before .before .before .before .before .before .before .before .before .loop .i < 32 = omega (arith, weighing-few _ _ _ _ _ (c .before .before .before .before .before .before .before .before .before .loop .inv .1), c .before .before .before .before .before .before .before .before .loop-test .taken) in search needs
+add-i c = let h : c .before .before .before .before .before .before .loop .i < 32 = omega (arith, weighing-few _ _ _ _ _ (c .before .before .before .before .before .before .loop .inv .1), c .before .before .before .before .before .loop-test .taken) in search needs
 
 loop-less : tie.Need-loop-less Inv-loop μ-loop
 loop-less c = search needs
 
 loop-again : tie.Need-loop-again Inv-loop μ-loop
-loop-again c = (c .before .before .before .before .before .put-weight .kept .0 ∙ c .before .before .before .before .before .before .before .before .before .loop .inv .0, weighing-next _ _ _ _ _ (c .before .before .before .before .before .before .before .before .before .loop .inv .1) (c .before .before .before .before .before .before .before .before .loop-test .taken) _ (c .before .before .before .before .before .put-weight .ensures) (c .before .a .given .1))
+loop-again c = (c .before .before .put-weight .kept .0 ∙ c .before .before .before .before .before .before .loop .inv .0, weighing-next _ _ _ _ _ (c .before .before .before .before .before .before .loop .inv .1) (c .before .before .before .before .before .loop-test .taken) _ (c .before .before .put-weight .ensures))
 
-same-length-2 : tie.Need-same-length-2 Inv-loop μ-loop
-same-length-2 c = c .before .loop .inv .0
+same-length : tie.Need-same-length Inv-loop μ-loop
+same-length c = c .before .loop .inv .0
 
-returns-3 : tie.Need-returns-3 Inv-loop μ-loop
-returns-3 c = weighing-all _ _ _ _ _ (c .before .loop .inv .1) (c .loop-test .left)
+returns-2 : tie.Need-returns-2 Inv-loop μ-loop
+returns-2 c = weighing-all _ _ _ _ _ (c .before .loop .inv .1) (c .loop-test .left)
 
 pub put-weight-list-spec : {M : Type 1} → statement M
 put-weight-list-spec =
@@ -76,19 +61,14 @@ put-weight-list-spec =
     μ-loop
     is-tidy-requires
     both-requires
-    refuse-requires
     returns
     loop-holds
     cast-k
     mul-x
     element-copy-out-x
     put-weight-requires
-    enum-known-a
-    enum-told
-    same-length
-    returns-2
     add-i
     loop-less
     loop-again
-    same-length-2
-    returns-3)
+    same-length
+    returns-2)
