@@ -29,6 +29,8 @@ pub struct Led {
     pub sequence: Sequence,
 }
 
+// The refusal stands first: the compiler takes the first variant for the rare one. Behind several answers the other way round it would take the rest of the
+// header for rare, call its stages instead of inlining them, and hand their parts on through memory.
 pub enum LeadStep {
     Refused(Refusal),
     Got(Led, Cursor),

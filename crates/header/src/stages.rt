@@ -48,6 +48,7 @@ pub struct FrontParts {
     pub active_counts: ActiveCounts,
 }
 
+// The refusal first, as in `LeadStep`.
 pub enum FrontStep {
     Refused(Refusal),
     Got(FrontParts, Cursor),

@@ -87,6 +87,7 @@ pub(crate) struct Lists {
     pub(crate) count1: u32,
 }
 
+// The refusal first, as in `LeadStep`.
 pub(crate) enum ListsStep {
     Refused(Refusal),
     Got(Lists, Cursor),
@@ -98,6 +99,7 @@ pub(crate) struct Marks {
     pub(crate) count: u32,
 }
 
+// The refusal first, as in `LeadStep`.
 pub(crate) enum MarksStep {
     Refused(Refusal),
     Got(Marks, Cursor),

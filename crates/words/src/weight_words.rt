@@ -39,6 +39,7 @@ pub struct WeightsShort {
     pub l1: u32,
 }
 
+// The refusal first, as in `LeadStep`.
 pub enum WeightsStep {
     Refused(Refusal),
     Got(WeightsShort, Cursor),
