@@ -14,8 +14,9 @@ pub(crate) fn put_marking(d: &mut [u8], c: Cursor, x: Context, m: DecRefPicMarki
 {
     let idr = both(x.kind.reference, x.kind.idr);
     let adaptive = m.adaptive_ref_pic_marking_mode_flag;
+    let operations = m.operations;
     let c1 = put_flag_if(d, c, idr, m.no_output_of_prior_pics_flag);
     let c2 = put_flag_if(d, c1, idr, m.long_term_reference_flag);
     let c3 = put_flag_if(d, c2, both(x.kind.reference, !x.kind.idr), adaptive);
-    put_operations_if(d, c3, adaptive.value, m.operations, marking_kind())
+    put_operations_if(d, c3, adaptive.value, operations, marking_kind())
 }

@@ -23,8 +23,10 @@ pub(crate) fn put_modification(
 ) -> Cursor
     ensures { λ r. ⌜ PutTo (modification mvc there) m (now (d .entry)) (c .at) (now (d .exit)) r ⌝ }
 {
-    let next = put_flag_if(d, c, there, m.flag);
-    put_operations_if(d, next, m.flag.value, m.operations, modification_kind(mvc))
+    let flag = m.flag;
+    let operations = m.operations;
+    let next = put_flag_if(d, c, there, flag);
+    put_operations_if(d, next, flag.value, operations, modification_kind(mvc))
 }
 
 // Both lists. A scalable slice's header has none, and goes no further.
@@ -41,6 +43,8 @@ pub(crate) fn put_modifications(
         return Cursor { at: NOWHERE };
     }
     let mvc = x.kind.mvc;
-    let next = put_modification(d, c, mvc, has_l0(slice_type), m.l0);
-    put_modification(d, next, mvc, is_type(slice_type, B), m.l1)
+    let l0 = m.l0;
+    let l1 = m.l1;
+    let next = put_modification(d, c, mvc, has_l0(slice_type), l0);
+    put_modification(d, next, mvc, is_type(slice_type, B), l1)
 }

@@ -111,13 +111,15 @@ pub(crate) fn put_pred_weight_table(
 {
     let weighted = is_weighted(x, slice_type);
     let chroma = has_chroma(x);
+    let l0 = w.l0;
+    let l1 = w.l1;
     let luma = MarkedNumber {
         there: w.there,
         value: w.luma_log2_weight_denom,
     };
     let c1 = put_number_if(d, c, weighted, luma);
     let c2 = put_number_if(d, c1, both(weighted, chroma), w.chroma_log2_weight_denom);
-    let c3 = put_weight_list(d, c2, chroma, count_if(weighted, n0), w.l0);
+    let c3 = put_weight_list(d, c2, chroma, count_if(weighted, n0), l0);
     let n = count_if(both(weighted, is_type(slice_type, B)), n1);
-    put_weight_list(d, c3, chroma, n, w.l1)
+    put_weight_list(d, c3, chroma, n, l1)
 }

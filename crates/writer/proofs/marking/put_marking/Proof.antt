@@ -31,7 +31,7 @@ same-length c = c .before .before .put-operations-if .kept .0 ∙ c .before .bef
 
 returns : tie.Need-returns
 unfolding decRefPicMarking
-returns c = shaped-to _ _ _ _ _ refl (on _ _ _ _ (rw (c .before .before .before .before .before .before .before .before .before .before .before .before .before .before .before .before .before .before .before .before .both .ensures) at (c .before .before .before .before .before .before .before .before .before .before .before .before .before .before .before .before .before .put-flag-if .ensures)) (on _ _ _ _ (rw (c .before .before .before .before .before .before .before .before .before .before .before .before .before .before .before .before .before .before .before .before .both .ensures) at (c .before .before .before .before .before .before .before .before .before .before .before .before .before .put-flag-if2 .ensures)) (on _ _ _ _ (rw (c .before .before .before .before .before .before .before .before .both2 .ensures) at (c .before .before .before .before .before .before .before .put-flag-if3 .ensures)) (rw (c .before .before .before .marking-kind .ensures) at (c .before .before .put-operations-if .ensures)))))
+returns c = shaped-to _ _ _ _ _ refl (on _ _ _ _ (rw (c .before .before .before .before .before .before .before .before .before .before .before .before .before .before .before .before .before .before .before .before .before .both .ensures) at (c .before .before .before .before .before .before .before .before .before .before .before .before .before .before .before .before .before .put-flag-if .ensures)) (on _ _ _ _ (rw (c .before .before .before .before .before .before .before .before .before .before .before .before .before .before .before .before .before .before .before .before .before .both .ensures) at (c .before .before .before .before .before .before .before .before .before .before .before .before .before .put-flag-if2 .ensures)) (on _ _ _ _ (rw (c .before .before .before .before .before .before .before .before .both2 .ensures) at (c .before .before .before .before .before .before .before .put-flag-if3 .ensures)) (rw (c .before .before .before .marking-kind .ensures) at (c .before .before .put-operations-if .ensures)))))
 
 pub put-marking-spec : {M : Type 1} → statement M
 put-marking-spec =

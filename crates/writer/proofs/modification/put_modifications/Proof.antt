@@ -28,7 +28,7 @@ same-length c = c .before .before .put-modification2 .kept .0 ∙ c .before .bef
 
 returns-2 : tie.Need-returns-2
 unfolding modifications
-returns-2 c = shaped-to _ _ _ _ _ refl (after _ _ _ _ (not-scalable _ (c .before .before .before .before .before .before .before .before .before .before .if1 .left) _ _) (on _ _ _ _ (rw (c .before .before .before .before .before .before .before .before .has-l0 .ensures) at (c .before .before .before .before .before .before .before .put-modification .ensures)) (rw (c .before .before .before .is-type .ensures) at (c .before .before .put-modification2 .ensures))))
+returns-2 c = shaped-to _ _ _ _ _ refl (after _ _ _ _ (not-scalable _ (c .before .before .before .before .before .before .before .before .before .before .before .before .if1 .left) _ _) (on _ _ _ _ (rw (c .before .before .before .before .before .before .before .before .has-l0 .ensures) at (c .before .before .before .before .before .before .before .put-modification .ensures)) (rw (c .before .before .before .is-type .ensures) at (c .before .before .put-modification2 .ensures))))
 
 pub put-modifications-spec : {M : Type 1} → statement M
 put-modifications-spec =

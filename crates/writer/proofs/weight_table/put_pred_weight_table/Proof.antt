@@ -44,7 +44,7 @@ same-length c = c .before .before .put-weight-list2 .kept .0 ∙ c .before .befo
 
 returns : tie.Need-returns
 unfolding predWeightTable
-returns c = shaped-to _ _ _ _ _ refl (on _ _ _ _ (number-when _ _ _ (rw (c .before .before .before .before .before .before .before .before .before .before .before .before .before .before .before .before .before .before .before .before .before .before .is-weighted .ensures) at (c .before .before .before .before .before .before .before .before .before .before .before .before .before .before .before .before .before .before .before .put-number-if .ensures))) (on _ _ _ _ (rw (c .before .before .before .before .before .before .before .before .before .before .before .before .before .before .before .both .ensures, c .before .before .before .before .before .before .before .before .before .before .before .before .before .before .before .before .before .before .before .before .before .before .is-weighted .ensures, c .before .before .before .before .before .before .before .before .before .before .before .before .before .before .before .before .before .before .before .before .before .has-chroma .ensures) at (c .before .before .before .before .before .before .before .before .before .before .before .before .before .before .put-number-if2 .ensures)) (on _ _ _ _ (rw (c .before .before .before .before .before .before .before .before .before .before .before .before .before .before .before .before .before .before .before .before .before .has-chroma .ensures, c .before .before .before .before .before .before .before .before .before .before .count-if .ensures, c .before .before .before .before .before .before .before .before .before .before .before .before .before .before .before .before .before .before .before .before .before .before .is-weighted .ensures) at (c .before .before .before .before .before .before .before .before .before .put-weight-list .ensures)) (rw (c .before .before .before .before .before .before .before .before .before .before .before .before .before .before .before .before .before .before .before .before .before .has-chroma .ensures, c .before .before .before .before .count-if2 .ensures, c .before .before .before .before .before .both2 .ensures, c .before .before .before .before .before .before .before .before .before .before .before .before .before .before .before .before .before .before .before .before .before .before .is-weighted .ensures, c .before .before .before .before .before .before .is-type .ensures) at (c .before .before .put-weight-list2 .ensures)))))
+returns c = shaped-to _ _ _ _ _ refl (on _ _ _ _ (number-when _ _ _ (rw (c .before .before .before .before .before .before .before .before .before .before .before .before .before .before .before .before .before .before .before .before .before .before .before .before .is-weighted .ensures) at (c .before .before .before .before .before .before .before .before .before .before .before .before .before .before .before .before .before .before .before .put-number-if .ensures))) (on _ _ _ _ (rw (c .before .before .before .before .before .before .before .before .before .before .before .before .before .before .before .both .ensures, c .before .before .before .before .before .before .before .before .before .before .before .before .before .before .before .before .before .before .before .before .before .before .before .before .is-weighted .ensures, c .before .before .before .before .before .before .before .before .before .before .before .before .before .before .before .before .before .before .before .before .before .before .before .has-chroma .ensures) at (c .before .before .before .before .before .before .before .before .before .before .before .before .before .before .put-number-if2 .ensures)) (on _ _ _ _ (rw (c .before .before .before .before .before .before .before .before .before .before .before .before .before .before .before .before .before .before .before .before .before .before .before .has-chroma .ensures, c .before .before .before .before .before .before .before .before .before .before .count-if .ensures, c .before .before .before .before .before .before .before .before .before .before .before .before .before .before .before .before .before .before .before .before .before .before .before .before .is-weighted .ensures) at (c .before .before .before .before .before .before .before .before .before .put-weight-list .ensures)) (rw (c .before .before .before .before .before .before .before .before .before .before .before .before .before .before .before .before .before .before .before .before .before .before .before .has-chroma .ensures, c .before .before .before .before .count-if2 .ensures, c .before .before .before .before .before .both2 .ensures, c .before .before .before .before .before .before .before .before .before .before .before .before .before .before .before .before .before .before .before .before .before .before .before .before .is-weighted .ensures, c .before .before .before .before .before .before .is-type .ensures) at (c .before .before .put-weight-list2 .ensures)))))
 
 pub put-pred-weight-table-spec : {M : Type 1} → statement M
 put-pred-weight-table-spec =
