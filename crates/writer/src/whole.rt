@@ -21,7 +21,7 @@ use syntax::record::SliceHeader;
 ghost use mathlib.Core.Path.{_≡_};
 ghost use Prim.Native.Nat.{_≤_};
 ghost use Rattle.fmt.specs.Put.{Put};
-ghost use Rattle.syntax.specs.SliceHeader.{activeOf, parts, ofHeader};
+ghost use Rattle.syntax.specs.SliceHeader.{activeOf, ofHeader};
 ghost use Rattle.writer.specs.Places.{PutTo};
 ghost use Rattle.writer.specs.Stages.{knownLead, back, middle, fields};
 
@@ -62,14 +62,15 @@ fn put_middle(d: &mut [u8], c: Cursor, x: Context, h: SliceHeader, n0: u32, n1: 
     put_back(d, c3, x, h.slice_type, h.quantiser, h.filter)
 }
 
-// All that follows pic_parameter_set_id.
-fn put_parts(d: &mut [u8], c: Cursor, x: Context, h: SliceHeader) -> Cursor
+// The header from the buffer's front on, by its sets. The record's seq_parameter_set_id is not looked at.
+pub(crate) fn put_header(d: &mut [u8], x: Context, h: SliceHeader) -> Wrote
     requires { ⌜ (x .picture .«num_ref_idx_l0_default_active_minus1» ≤ 31) × (x .picture .«num_ref_idx_l1_default_active_minus1» ≤ 31) ⌝ }
-    ensures { λ r. ⌜ PutTo (parts x (h .«slice_type»)) (ofHeader h .1) (now (d .entry)) (c .at) (now (d .exit)) r ⌝ }
+    ensures { λ r. ⌜ Put (fields x) (ofHeader h) (now (d .entry)) 0 (now (d .exit)) r ⌝ }
 {
-    let c1 = put_frame(d, c, x, h.frame);
-    let c2 = put_order_count(d, c1, x, h.frame.field_pic_flag.value, h.order_count);
-    let c3 = put_active_counts(d, c2, h.slice_type, h.active_counts);
+    let c1 = put_lead(d, h.first_mb_in_slice, h.slice_type, h.pic_parameter_set_id);
+    let c2 = put_frame(d, c1, x, h.frame);
+    let c3 = put_order_count(d, c2, x, h.frame.field_pic_flag.value, h.order_count);
+    let c4 = put_active_counts(d, c3, h.slice_type, h.active_counts);
     let n0 = active(
         h.active_counts.num_ref_idx_l0_active_minus1,
         x.picture.num_ref_idx_l0_default_active_minus1,
@@ -78,14 +79,5 @@ fn put_parts(d: &mut [u8], c: Cursor, x: Context, h: SliceHeader) -> Cursor
         h.active_counts.num_ref_idx_l1_active_minus1,
         x.picture.num_ref_idx_l1_default_active_minus1,
     );
-    put_middle(d, c3, x, h, n0, n1)
-}
-
-// The header from the buffer's front on, by its sets. The record's seq_parameter_set_id is not looked at.
-pub(crate) fn put_header(d: &mut [u8], x: Context, h: SliceHeader) -> Wrote
-    requires { ⌜ (x .picture .«num_ref_idx_l0_default_active_minus1» ≤ 31) × (x .picture .«num_ref_idx_l1_default_active_minus1» ≤ 31) ⌝ }
-    ensures { λ r. ⌜ Put (fields x) (ofHeader h) (now (d .entry)) 0 (now (d .exit)) r ⌝ }
-{
-    let c = put_lead(d, h.first_mb_in_slice, h.slice_type, h.pic_parameter_set_id);
-    reached(put_parts(d, c, x, h))
+    reached(put_middle(d, c4, x, h, n0, n1))
 }
