@@ -15,11 +15,13 @@ use bits::read::Cursor;
 use bits::refusals::SLICE_TYPE;
 use syntax::context::Context;
 use syntax::marks::MarkedNumber;
+use syntax::record::Filter;
+use syntax::record::Quantiser;
 use syntax::record::SliceHeader;
 ghost use mathlib.Core.Path.{_≡_};
 ghost use Prim.Native.Nat.{_≤_};
 ghost use Rattle.fmt.specs.Put.{Put};
-ghost use Rattle.syntax.specs.SliceHeader.{activeOf, parts, ofHeader};
+ghost use Rattle.syntax.specs.SliceHeader.{activeOf, ofHeader};
 ghost use Rattle.writer.specs.Places.{PutTo};
 ghost use Rattle.writer.specs.Stages.{knownLead, back, middle, fields};
 
@@ -34,20 +36,20 @@ fn active(m: MarkedNumber, default: u32) -> u32
 }
 
 // first_mb_in_slice to pic_parameter_set_id, which has been looked up.
-fn put_lead(d: &mut [u8], h: SliceHeader) -> Cursor
-    ensures { λ r. ⌜ PutTo knownLead (ofHeader h .0) (now (d .entry)) 0 (now (d .exit)) r ⌝ }
+fn put_lead(d: &mut [u8], first_mb: u32, slice_type: u32, picture: u32) -> Cursor
+    ensures { λ r. ⌜ PutTo knownLead («first_mb», («slice_type», picture)) (now (d .entry)) 0 (now (d .exit)) r ⌝ }
 {
-    let c1 = put_number(d, Cursor { at: 0 }, h.first_mb_in_slice);
-    let c2 = put_tested(d, c1, h.slice_type, 9, SLICE_TYPE);
-    put_number(d, c2, h.pic_parameter_set_id)
+    let c1 = put_number(d, Cursor { at: 0 }, first_mb);
+    let c2 = put_tested(d, c1, slice_type, 9, SLICE_TYPE);
+    put_number(d, c2, picture)
 }
 
 // cabac_init_idc to slice_group_change_cycle.
-fn put_back(d: &mut [u8], c: Cursor, x: Context, h: SliceHeader) -> Cursor
-    ensures { λ r. ⌜ PutTo (back x (h .«slice_type»)) (h .quantiser, h .filter) (now (d .entry)) (c .at) (now (d .exit)) r ⌝ }
+fn put_back(d: &mut [u8], c: Cursor, x: Context, slice_type: u32, q: Quantiser, f: Filter) -> Cursor
+    ensures { λ r. ⌜ PutTo (back x «slice_type») (q, f) (now (d .entry)) (c .at) (now (d .exit)) r ⌝ }
 {
-    let c1 = put_quantiser(d, c, x, h.slice_type, h.quantiser);
-    put_filter(d, c1, x, h.filter)
+    let c1 = put_quantiser(d, c, x, slice_type, q);
+    put_filter(d, c1, x, f)
 }
 
 // ref_pic_list_modification( ) and all that follows it, for lists of n0 and n1 references.
@@ -57,17 +59,18 @@ fn put_middle(d: &mut [u8], c: Cursor, x: Context, h: SliceHeader, n0: u32, n1: 
     let c1 = put_modifications(d, c, x, h.slice_type, h.modifications);
     let c2 = put_pred_weight_table(d, c1, x, h.slice_type, n0, n1, h.pred_weight_table);
     let c3 = put_marking(d, c2, x, h.dec_ref_pic_marking);
-    put_back(d, c3, x, h)
+    put_back(d, c3, x, h.slice_type, h.quantiser, h.filter)
 }
 
-// All that follows pic_parameter_set_id.
-fn put_parts(d: &mut [u8], c: Cursor, x: Context, h: SliceHeader) -> Cursor
+// The header from the buffer's front on, by its sets. The record's seq_parameter_set_id is not looked at.
+pub(crate) fn put_header(d: &mut [u8], x: Context, h: SliceHeader) -> Wrote
     requires { ⌜ (x .picture .«num_ref_idx_l0_default_active_minus1» ≤ 31) × (x .picture .«num_ref_idx_l1_default_active_minus1» ≤ 31) ⌝ }
-    ensures { λ r. ⌜ PutTo (parts x (h .«slice_type»)) (ofHeader h .1) (now (d .entry)) (c .at) (now (d .exit)) r ⌝ }
+    ensures { λ r. ⌜ Put (fields x) (ofHeader h) (now (d .entry)) 0 (now (d .exit)) r ⌝ }
 {
-    let c1 = put_frame(d, c, x, h.frame);
-    let c2 = put_order_count(d, c1, x, h.frame.field_pic_flag.value, h.order_count);
-    let c3 = put_active_counts(d, c2, h.slice_type, h.active_counts);
+    let c1 = put_lead(d, h.first_mb_in_slice, h.slice_type, h.pic_parameter_set_id);
+    let c2 = put_frame(d, c1, x, h.frame);
+    let c3 = put_order_count(d, c2, x, h.frame.field_pic_flag.value, h.order_count);
+    let c4 = put_active_counts(d, c3, h.slice_type, h.active_counts);
     let n0 = active(
         h.active_counts.num_ref_idx_l0_active_minus1,
         x.picture.num_ref_idx_l0_default_active_minus1,
@@ -76,14 +79,5 @@ fn put_parts(d: &mut [u8], c: Cursor, x: Context, h: SliceHeader) -> Cursor
         h.active_counts.num_ref_idx_l1_active_minus1,
         x.picture.num_ref_idx_l1_default_active_minus1,
     );
-    put_middle(d, c3, x, h, n0, n1)
-}
-
-// The header from the buffer's front on, by its sets. The record's seq_parameter_set_id is not looked at.
-pub(crate) fn put_header(d: &mut [u8], x: Context, h: SliceHeader) -> Wrote
-    requires { ⌜ (x .picture .«num_ref_idx_l0_default_active_minus1» ≤ 31) × (x .picture .«num_ref_idx_l1_default_active_minus1» ≤ 31) ⌝ }
-    ensures { λ r. ⌜ Put (fields x) (ofHeader h) (now (d .entry)) 0 (now (d .exit)) r ⌝ }
-{
-    let c = put_lead(d, h);
-    reached(put_parts(d, c, x, h))
+    reached(put_middle(d, c4, x, h, n0, n1))
 }
