@@ -69,14 +69,25 @@ pub fn walk<'a>(
     recording: &'a [u8],
     longest: usize,
 ) -> impl FnMut() -> Found + 'a {
+    walk_all(table, vec![recording], longest)
+}
+
+/// The walk over recordings, one after the other.
+pub fn walk_all<'a>(
+    table: &'a Table,
+    recordings: Vec<&'a [u8]>,
+    longest: usize,
+) -> impl FnMut() -> Found + 'a {
     let mut lent = Lent::new(longest);
     move || {
         let mut found = Found::default();
-        lent.steps(table, recording, |step, lent| {
-            found.units += 1;
-            found.lengths += step.length as u64;
-            take(&mut found, &step.read, &lent.words);
-        });
+        for recording in &recordings {
+            lent.steps(table, recording, |step, lent| {
+                found.units += 1;
+                found.lengths += step.length as u64;
+                take(&mut found, &step.read, &lent.words);
+            });
+        }
         found
     }
 }
