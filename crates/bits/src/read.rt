@@ -9,8 +9,8 @@ ghost use mathlib.Core.Path.{_≡_};
 ghost use Prim.Native.Nat.{ℕ, _+_, _-_, _*_, _/_, _^_, _≤_, _<_};
 ghost use lib.ListN.{length};
 ghost use Rattle.bits.specs.Bits.{reach, bitsOf, bytesBits};
-ghost use Rattle.bits.specs.Codes.{widthOf, fixedAt, uAt, isSet, flagAt, ueAt, seAt, seOf};
-ghost use Rattle.bits.specs.Answers.{asRead, asSigned, asFlag, whyRead, whySigned, whyFlag, none};
+ghost use Rattle.bits.specs.Codes.{widthOf, fixedAt, uAt, flagAt, ueAt, seAt, seOf};
+ghost use Rattle.bits.specs.Answers.{asRead, asSigned, asFlag, whyRead, whySigned, whyFlag};
 ghost use Rattle.bits.specs.Windows.{bitsAt, zerosAt};
 
 // The place of the next bit. Bit 0 is the top bit of byte 0.

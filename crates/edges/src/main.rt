@@ -1,4 +1,4 @@
-// Runs the edges of document 01 that bits and nal have, and prints each answer on a line. What it prints is held to the file stdout beside src/.
+// Runs the edges of document 01 that bits, nal and escape have, and prints each answer on a line. What it prints is held to the file stdout beside src/.
 mod show; // answers as text
 mod reads; // codes at their limits
 mod puts; // writing at its limits

@@ -38,10 +38,6 @@ pub both-T : (a b : Bool) → T a → T b → T (a && b)
 both-T true b s t = t
 both-T false b s t = s
 
-pub both-false : (a b : Bool) → b ≡ false → a && b ≡ false
-both-false true b h = h
-both-false false b h = refl
-
 pub T-true : (b : Bool) → T b → b ≡ true
 T-true true t = refl
 T-true false t = absurd t

@@ -14,7 +14,7 @@ use Rattle.bits.specs.declared.put.Wrote.{Wrote}
 use Rattle.bits.specs.declared.put.Wrote.the-variants.{At, Refused}
 use Rattle.fmt.specs.Fmt.{Fmt, seq, times, until}
 use Rattle.fmt.specs.Put.{Put}
-use Rattle.fmt.proofs.Puts.{Done, Stopped, not-good, seq-put, seq-stop, times-end, times-put, until-end, until-put, until-closes, until-long}
+use Rattle.fmt.proofs.Puts.{Done, Stopped, not-good, seq-put, seq-stop, times-end, times-put, until-end, until-put, until-closes}
 
 module _ {A : Type 0} (C : Fmt ℕ) (close : ℕ) (G : ℕ → Fmt A) (cap : ℕ) (l : List (ℕ × A)) (d : List ℕ) (at : ℕ) where
   -- the first i codes with their operands have been written, dᵢ is the buffer, and the next place is e
@@ -28,15 +28,10 @@ module _ {A : Type 0} (C : Fmt ℕ) (close : ℕ) (G : ℕ → Fmt A) (cap : ℕ
     pub ahead-closed : length l ≤ i → (d' : List ℕ) (r : Wrote) → Put C close dᵢ e d' r → Put (until C close G cap) l d at d' r
     ahead-closed h d' r p = a .rest d' r (rw (drop-of-length-le l h) (until-end C close G (cap - i) p))
 
-    -- the next element is x, and cannot stand there: its code is the closing one, or the list is full
+    -- the next element is x, and cannot stand there: its code is the closing one
     module _ (x : ℕ × A) (is : drop i l ≡ x ∷ drop (i + 1) l) (q : Refusal) (d' : List ℕ) where
       pub ahead-closes : eqb (x .0) close ≡ true → Put (until C close G cap) l d at d' (Refused q)
       ahead-closes h = a .rest d' _ (rw is (not-good (until C close G (cap - i)) (x ∷ drop (i + 1) l) (until-closes C close G (cap - i) x (drop (i + 1) l) h)))
-
-      pub ahead-full : cap ≤ i → Put (until C close G cap) l d at d' (Refused q)
-      ahead-full h =
-          let k : 0 ≡ cap - i = omega arith in
-          a .rest d' _ (rw (is, ← k) (not-good (until C close G 0) (x ∷ drop (i + 1) l) (until-long C close G x (drop (i + 1) l))))
 
     -- the next element is x, which is no closing code
     module _ (x : ℕ × A) (is : drop i l ≡ x ∷ drop (i + 1) l) (no-close : eqb (x .0) close ≡ false) (more : i < cap) where

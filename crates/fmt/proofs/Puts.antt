@@ -21,7 +21,7 @@ use Rattle.bits.proofs.Puts.{put-append}
 use Rattle.bits.proofs.Buffers.{length-bits-put}
 use Rattle.fmt.specs.Fmt.{Fmt, nothing, seq, shaped, test, Marked, when, times, until}
 use Rattle.fmt.specs.Put.{Put, done, none}
-use Rattle.fmt.proofs.Lawful.{both-0, both-1, both-T, both-false, T-true}
+use Rattle.fmt.proofs.Lawful.{both-0, both-1, both-T}
 
 -- what a write that was done says
 pub record Done {A : Type 0} (F : Fmt A) (a : A) (d : List ℕ) (at : ℕ) (d' : List ℕ) (c : Cursor) : Type 0 where
@@ -153,15 +153,11 @@ module _ {A : Type 0} (z : A) (isz : A → Bool) (F : Fmt A) (m : Marked A) wher
   unfolding when
   when-absent d at b q t i = empty-put (when b z isz F) m d at (rw (q, t) i) (rw q)
 
-  -- the mark is not what it should be; or it is, and the value that is not there is not zero
+  -- the mark is not what it should be
   pub when-marked : (b : Bool) → m .there ≡ not b → when b z isz F .good m ≡ false
   unfolding when
   when-marked true t = rw t
   when-marked false t = rw t
-
-  pub when-not-zero : (b : Bool) → b ≡ false → isz (m .value) ≡ false → when b z isz F .good m ≡ false
-  unfolding when
-  when-not-zero b q i = rw q (both-false (not (m .there)) (isz (m .value)) i)
 
 -- lists, an element at a time
 module _ {A : Type 0} (F : Fmt A) where
@@ -189,7 +185,3 @@ module _ {A : Type 0} (C : Fmt ℕ) (close : ℕ) (G : ℕ → Fmt A) where
   unfolding until
   until-closes zero x l q = refl
   until-closes (suc n) x l q = rw q
-
-  pub until-long : (x : ℕ × A) (l : List (ℕ × A)) → until C close G zero .good (x ∷ l) ≡ false
-  unfolding until
-  until-long x l = refl
