@@ -15,7 +15,7 @@ use Rattle.bits.specs.Put.{written, bytesFor}
 use Rattle.bits.proofs.Results.{cases}
 use Rattle.fmt.specs.Fmt.{seq, shaped, test}
 use Rattle.fmt.specs.Leaves.{ue}
-use Rattle.fmt.proofs.Lawful.{both-false, T-true}
+use Rattle.fmt.proofs.Lawful.{T-true}
 use Rattle.fmt.proofs.Sizes.{Short, ue-short}
 use Rattle.fmt.proofs.Puts.{Done, Stopped}
 use Rattle.table.specs.declared.sets.Picture.{Picture}
