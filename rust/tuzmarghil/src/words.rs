@@ -289,7 +289,7 @@ pub fn whole(h: &HeaderShort, words: &Words) -> SliceHeader {
 mod tests {
     use super::*;
 
-    /// The words of a header, as crates/short/src/slice.rt has them.
+    /// The words of a header, as crates/short/src/fields.rt has them.
     fn words(h: &HeaderShort) -> (NumberWords, SignedWords) {
         let numbers = [
             h.first_mb_in_slice,

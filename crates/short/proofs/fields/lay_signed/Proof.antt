@@ -2,8 +2,8 @@ use mir.Facts.{toZ-ofZ}
 use mir.Syntax.{w32}
 use mir.Val.{SFits}
 use borrow.Author.Needs.{sfits-of}
-use Rattle.short.proofs.slice.lay_signed.Statement.{statement}
-use Rattle.short.proofs.slice.lay_signed.Tie as tie
+use Rattle.short.proofs.fields.lay_signed.Statement.{statement}
+use Rattle.short.proofs.fields.lay_signed.Tie as tie
 
 -- that each field fits stands deep in what is told of the structs, too deep for a search
 returns : tie.Need-returns
