@@ -1,6 +1,6 @@
 //! The proved library, through the raw calls of rust/tuzmarghil.
 
-use tuzmarghil::raw::{self, ExtensionGiven, ReadOut, SliceHeader, WalkOut, Words};
+use tuzmarghil::raw::{self, ExtensionGiven, ReadOut, WalkOut, Words};
 use tuzmarghil::Table;
 
 use crate::peers::Found;
@@ -134,10 +134,10 @@ pub fn heads<'a>(table: &'a Table, units: &'a [&'a [u8]]) -> impl FnMut() -> Fou
     }
 }
 
-/// A header that was read, to be written: its unit's first byte, the record, how many bits it had.
+/// A header that was read, to be written: its unit's first byte, the words, how many bits it had.
 pub struct Header {
     first: u8,
-    record: SliceHeader,
+    words: Words,
     bits: usize,
 }
 
@@ -149,15 +149,15 @@ pub fn headers(table: &Table, units: &[&[u8]]) -> Vec<Header> {
     for unit in units {
         lent.read(table, unit, &mut out);
         assert_eq!(out.answer, SLICE, "a unit that is no good slice");
-        let record = raw::whole(&lent.words.header(), &lent.words);
-        let wrote = raw::write_header(table.as_raw(), unit[0], NO_EXTENSION, record, &mut buffer);
+        let words = &lent.words;
+        let wrote = raw::write_header(table.as_raw(), unit[0], NO_EXTENSION, words, &mut buffer);
         assert_eq!((wrote.number, wrote.bits), (0, out.bits));
         let (whole, spare) = (out.bits / 8, out.bits % 8);
         assert_eq!(buffer[..whole], lent.scratch[..whole]);
         assert!(spare == 0 || (buffer[whole] ^ lent.scratch[whole]) >> (8 - spare) == 0);
         headers.push(Header {
             first: unit[0],
-            record,
+            words: words.clone(),
             bits: out.bits,
         });
     }
@@ -171,7 +171,7 @@ pub fn write<'a>(table: &'a Table, headers: &'a [Header]) -> impl FnMut() -> usi
         let mut bits = 0;
         for h in headers {
             let wrote =
-                raw::write_header(table.as_raw(), h.first, NO_EXTENSION, h.record, &mut buffer);
+                raw::write_header(table.as_raw(), h.first, NO_EXTENSION, &h.words, &mut buffer);
             bits += wrote.bits;
         }
         bits
@@ -183,7 +183,7 @@ pub fn bits(headers: &[Header]) -> usize {
     headers.iter().map(|h| h.bits).sum()
 }
 
-/// A walk in which every slice's header is put together and written again; gives the bits that were written beside what was found.
+/// A walk in which every slice's header is written again; gives the bits that were written beside what was found.
 pub fn rewrite<'a>(
     table: &'a Table,
     recording: &'a [u8],
@@ -198,9 +198,9 @@ pub fn rewrite<'a>(
             take(&mut found, &step.read, &lent.words);
             if step.read.answer == SLICE {
                 let first = recording[step.place];
-                let record = raw::whole(&lent.words.header(), &lent.words);
+                let words = &lent.words;
                 let wrote =
-                    raw::write_header(table.as_raw(), first, NO_EXTENSION, record, &mut buffer);
+                    raw::write_header(table.as_raw(), first, NO_EXTENSION, words, &mut buffer);
                 bits += wrote.bits;
             }
         });

@@ -20,6 +20,9 @@ const RECORDS: [&str; 12] = [
     "exports/src/writes.rt",
 ];
 
+/// The file that lays a header's fields down as words.
+const LAYOUT: &str = "crates/short/src/fields.rt";
+
 fn main() {
     let here = PathBuf::from(env::var_os("CARGO_MANIFEST_DIR").unwrap());
     let out = PathBuf::from(env::var_os("OUT_DIR").unwrap());
@@ -28,7 +31,7 @@ fn main() {
         .iter()
         .map(|file| records(&root.join("crates").join(file)))
         .collect();
-    fs::write(out.join("records.rs"), text).unwrap();
+    fs::write(out.join("records.rs"), text + &layout(&root.join(LAYOUT))).unwrap();
 
     let name = format!("lib{EXPORTS}.a");
     fs::copy(archive(&root, &name), out.join(&name)).unwrap();
@@ -88,4 +91,63 @@ fn records(file: &Path) -> String {
         }
     }
     text
+}
+
+/// Where each field of a header stands among its words, as the proved code lays them down: from its lines come a function that lays them down in Rust and one that
+/// takes them up again.
+fn layout(file: &Path) -> String {
+    let source = fs::read_to_string(file).unwrap_or_else(|e| panic!("{}: {e}", file.display()));
+    let part = |name: &str| -> Vec<String> {
+        let start = format!("*{name} = [");
+        let lines = source.lines().map(str::trim);
+        let lines = lines.skip_while(|line| *line != start).skip(1);
+        let lines = lines.take_while(|line| *line != "];");
+        lines
+            .map(|line| line.trim_end_matches(',').to_string())
+            .collect()
+    };
+    let parts = [
+        ("o.", "h.order_count."),
+        ("q.", "h.quantiser."),
+        ("f.", "h.filter."),
+    ];
+    let whole = |line: &String| {
+        let part = parts.iter().find(|(short, _)| line.starts_with(short));
+        part.map_or(line.clone(), |(short, long)| line.replacen(short, long, 1))
+    };
+    let numbers = part("numbers");
+    let signed: Vec<String> = part("signed").iter().map(whole).collect();
+    assert!(
+        numbers.len() == 57 && signed.len() == 7,
+        "{} is laid out in another way",
+        file.display()
+    );
+
+    let mut up = String::new();
+    for (name, words) in [("numbers", &numbers), ("signed", &signed)] {
+        for (k, field) in words.iter().enumerate() {
+            up += &match field.strip_suffix(" as u32") {
+                Some(flag) => format!("    {flag} = {name}[{k}] != 0;\n"),
+                None => format!("    {field} = {name}[{k}];\n"),
+            };
+        }
+    }
+    let (numbers, signed) = (numbers.join(",\n        "), signed.join(",\n        "));
+    format!(
+        "pub(crate) fn laid(h: &HeaderShort, numbers: &mut [u32; 57], signed: &mut [i32; 7]) {{
+    *numbers = [
+        {numbers},
+    ];
+    *signed = [
+        {signed},
+    ];
+}}
+
+#[inline(always)]
+pub(crate) fn taken_up(numbers: &[u32; 57], signed: &[i32; 7]) -> HeaderShort {{
+    let mut h = HeaderShort::default();
+{up}    h
+}}
+"
+    )
 }

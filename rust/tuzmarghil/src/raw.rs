@@ -3,9 +3,7 @@
 //! The structs are taken from the Rattle sources by build.rs: nothing is declared twice. What is absent is zero, with its mark `there` clear.
 #![allow(missing_docs)]
 
-pub use crate::words::{
-    whole, List, ListWords, NumberWords, SignedWords, WeightWords, Weights, Words,
-};
+pub use crate::words::{List, ListWords, NumberWords, SignedWords, WeightWords, Weights, Words};
 
 include!(concat!(env!("OUT_DIR"), "/records.rs"));
 
@@ -57,7 +55,13 @@ extern "C" {
         pictures: *const [u32; 2048],
         first: u8,
         extension: ExtensionGiven,
-        header: SliceHeader,
+        numbers: *const NumberWords,
+        signed: *const SignedWords,
+        l0: *const ListWords,
+        l1: *const ListWords,
+        marking: *const ListWords,
+        w0: *const WeightWords,
+        w1: *const WeightWords,
         buffer: *mut u8,
         buffer_len: usize,
     );
@@ -88,7 +92,7 @@ macro_rules! plain {
     )* };
 }
 
-plain!(Table Sequence Picture SequenceOut PictureOut SliceHeader ReadOut WalkOut WroteOut);
+plain!(Table Sequence Picture SequenceOut PictureOut HeaderShort ReadOut WalkOut WroteOut);
 
 pub fn sequence_at(table: &Table, id: u32) -> SequenceOut {
     let mut out = SequenceOut::default();
@@ -155,13 +159,27 @@ pub fn write_header(
     table: &Table,
     first: u8,
     extension: ExtensionGiven,
-    header: SliceHeader,
+    words: &Words,
     buffer: &mut [u8],
 ) -> WroteOut {
     let mut out = WroteOut::default();
     let (q, p) = (&table.sequences, &table.pictures);
+    let Words {
+        numbers,
+        signed,
+        l0,
+        l1,
+        marking,
+        w0,
+        w1,
+        base: _,
+    } = words;
     let (b, n) = (buffer.as_mut_ptr(), buffer.len());
     // SAFETY: the pointer and the length are those of a live slice, the arrays live through the call, and it requires nothing.
-    unsafe { tuz_write_header(&mut out, q, p, first, extension, header, b, n) };
+    unsafe {
+        tuz_write_header(
+            &mut out, q, p, first, extension, numbers, signed, l0, l1, marking, w0, w1, b, n,
+        )
+    };
     out
 }

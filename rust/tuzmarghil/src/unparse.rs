@@ -1,40 +1,40 @@
-//! The slice header back to the record that the proved library has.
+//! The slice header back to the words that the proved library takes. What no words can hold becomes a count that no list has: the library refuses it in its place.
 
-use crate::raw::{self, MarkedFlag, MarkedNumber, MarkedSigned, Operations, Plain, WeightList};
+use crate::raw::{self, HeaderShort, ListWords, MarkedFlag, MarkedNumber, MarkedSigned};
+use crate::raw::{WeightWords, Words};
 use crate::{
     ColourPlane, DecRefPicMarking, Field, FieldPic, MemoryManagementControlOperation,
     ModificationOfPicNums, NumRefIdxActive, PicOrderCountLsb, PredWeight, PredWeightTable,
-    RefPicListModifications, Refusal, SliceFamily, SliceHeader, Table,
+    RefPicListModifications, SliceFamily, SliceHeader, Table,
 };
 
-/// Refusal 25: a list that no record holds.
-const NO_BITS: Refusal = Refusal {
-    number: 25,
-    value: 0,
-};
+/// A count that no list has.
+const NO_LIST: u32 = u32::MAX;
 
 impl SliceHeader {
-    /// The record, with the marks that the table's sets ask for where a field here does not tell whether it is there. A list with more entries than a record holds
-    /// is refusal 25.
-    pub fn to_raw(&self, table: &Table) -> Result<raw::SliceHeader, Refusal> {
+    /// The words, with the marks that the table's sets ask for where a field here does not tell whether it is there.
+    pub fn to_words(&self, table: &Table) -> Words {
         let picture = table.picture(self.pic_parameter_set_id).unwrap_or_default();
         let sequence = table
             .sequence(picture.seq_parameter_set_id)
             .unwrap_or_default();
-        let mut h = raw::SliceHeader::zero();
-        h.first_mb_in_slice = self.first_mb_in_slice;
-        h.slice_type = self.slice_type.id();
-        h.pic_parameter_set_id = self.pic_parameter_set_id;
-        h.seq_parameter_set_id = self.seq_parameter_set_id;
+        let mut words = Words::default();
+        let mut h = HeaderShort {
+            first_mb_in_slice: self.first_mb_in_slice,
+            slice_type: self.slice_type.id(),
+            pic_parameter_set_id: self.pic_parameter_set_id,
+            seq_parameter_set_id: self.seq_parameter_set_id,
+            ..HeaderShort::default()
+        };
         self.put_frame(&mut h.frame, sequence.frame_mbs_only_flag);
         self.put_order_count(&mut h.order_count);
         self.put_active_counts(&mut h.active_counts);
-        put_modifications(&self.ref_pic_list_modification, &mut h.modifications)?;
+        put_modifications(&self.ref_pic_list_modification, &mut h, &mut words);
         if let Some(table) = &self.pred_weight_table {
-            put_weights(table, &mut h.pred_weight_table)?;
+            put_weights(table, &mut h.weights, &mut words);
         }
         if let Some(marking) = &self.dec_ref_pic_marking {
-            put_marking(marking, &mut h.dec_ref_pic_marking)?;
+            put_marking(marking, &mut h, &mut words.marking);
         }
         h.quantiser.cabac_init_idc = number(self.cabac_init_idc);
         h.quantiser.slice_qp_delta = self.slice_qp_delta;
@@ -46,7 +46,8 @@ impl SliceHeader {
         h.filter.slice_alpha_c0_offset_div2 = signed(self.slice_alpha_c0_offset_div2);
         h.filter.slice_beta_offset_div2 = signed(self.slice_beta_offset_div2);
         h.filter.slice_group_change_cycle = number(self.slice_group_change_cycle);
-        Ok(h)
+        words.set_header(&h);
+        words
     }
 
     fn put_frame(&self, to: &mut raw::Frame, frames_only: bool) {
@@ -133,104 +134,99 @@ fn flag(b: Option<bool>) -> MarkedFlag {
     }
 }
 
-fn put_operations(
-    list: impl ExactSizeIterator<Item = (u32, u32, u32)>,
-    to: &mut Operations,
-) -> Result<(), Refusal> {
-    if list.len() > to.codes.len() {
-        return Err(NO_BITS);
+/// A list's entries, and how many there are: of more than its words hold, the count alone goes over.
+fn put_operations(list: impl ExactSizeIterator<Item = (u32, u32, u32)>, to: &mut ListWords) -> u32 {
+    let count = u32::try_from(list.len()).unwrap_or(NO_LIST);
+    for (entry, to) in list.zip(to.chunks_exact_mut(3)) {
+        (to[0], to[1], to[2]) = entry;
     }
-    to.count = list.len() as u32;
-    for (i, (code, first, second)) in list.enumerate() {
-        (to.codes[i], to.first[i], to.second[i]) = (code, first, second);
-    }
-    Ok(())
+    count
 }
 
-fn put_modifications(
-    from: &RefPicListModifications,
-    to: &mut raw::Modifications,
-) -> Result<(), Refusal> {
-    let put = |list: &Option<Vec<ModificationOfPicNums>>, to: &mut raw::Modification| {
-        to.flag = flag(Some(list.is_some()));
-        let entries = list.iter().flatten().copied().collect::<Vec<_>>();
-        let entry = |m| match m {
+fn put_modifications(from: &RefPicListModifications, h: &mut HeaderShort, words: &mut Words) {
+    let put = |list: &Option<Vec<ModificationOfPicNums>>, to: &mut ListWords| {
+        let entry = |m: &_| match *m {
             ModificationOfPicNums::Subtract(n) => (0, n, 0),
             ModificationOfPicNums::Add(n) => (1, n, 0),
             ModificationOfPicNums::LongTermRef(n) => (2, n, 0),
             ModificationOfPicNums::SubtractViewIdx(n) => (4, n, 0),
             ModificationOfPicNums::AddViewIdx(n) => (5, n, 0),
         };
-        put_operations(entries.into_iter().map(entry), &mut to.operations)
+        let entries = list.as_deref().unwrap_or(&[]).iter().map(entry);
+        (flag(Some(list.is_some())), put_operations(entries, to))
     };
-    match from {
-        RefPicListModifications::I => Ok(()),
+    let (l0, l1) = match from {
+        RefPicListModifications::I => (None, None),
         RefPicListModifications::P {
             ref_pic_list_modification_l0,
-        } => put(ref_pic_list_modification_l0, &mut to.l0),
+        } => (Some(ref_pic_list_modification_l0), None),
         RefPicListModifications::B {
             ref_pic_list_modification_l0,
             ref_pic_list_modification_l1,
-        } => {
-            put(ref_pic_list_modification_l0, &mut to.l0)?;
-            put(ref_pic_list_modification_l1, &mut to.l1)
-        }
+        } => (
+            Some(ref_pic_list_modification_l0),
+            Some(ref_pic_list_modification_l1),
+        ),
+    };
+    if let Some(list) = l0 {
+        (h.ref_pic_list_modification_flag_l0, h.modifications_l0) = put(list, &mut words.l0);
+    }
+    if let Some(list) = l1 {
+        (h.ref_pic_list_modification_flag_l1, h.modifications_l1) = put(list, &mut words.l1);
     }
 }
 
-fn put_weights(from: &PredWeightTable, to: &mut raw::PredWeightTable) -> Result<(), Refusal> {
-    fn put(
-        luma: &[Option<PredWeight>],
-        chroma: &[Vec<PredWeight>],
-        to: &mut WeightList,
-    ) -> Result<(), Refusal> {
-        if luma.len() > to.entries.len() || chroma.len() > luma.len() {
-            return Err(NO_BITS);
-        }
-        to.count = luma.len() as u32;
-        for (w, to) in luma.iter().zip(&mut to.entries) {
-            if let Some(w) = w {
-                to.luma_weight_flag = true;
-                (to.luma_weight, to.luma_offset) = (w.weight, w.offset);
-            }
-        }
-        for (w, to) in chroma.iter().zip(&mut to.entries) {
-            match w.as_slice() {
-                [] => {}
-                [cb, cr] => {
-                    to.chroma_weight_flag = true;
-                    (to.cb_weight, to.cb_offset) = (cb.weight, cb.offset);
-                    (to.cr_weight, to.cr_offset) = (cr.weight, cr.offset);
-                }
-                _ => return Err(NO_BITS),
-            }
-        }
-        Ok(())
-    }
+fn put_weights(from: &PredWeightTable, to: &mut raw::WeightsShort, words: &mut Words) {
     to.there = true;
     to.luma_log2_weight_denom = from.luma_log2_weight_denom;
     to.chroma_log2_weight_denom = number(from.chroma_log2_weight_denom);
-    put(&from.luma_weights, &from.chroma_weights, &mut to.l0)?;
-    put(&from.luma_weights_l1, &from.chroma_weights_l1, &mut to.l1)
+    let chroma = from.chroma_log2_weight_denom.is_some();
+    let l0 = (&from.luma_weights, &from.chroma_weights);
+    let l1 = (&from.luma_weights_l1, &from.chroma_weights_l1);
+    to.l0 = put_weight_list(l0.0, l0.1, chroma, &mut words.w0);
+    to.l1 = put_weight_list(l1.0, l1.1, chroma, &mut words.w1);
 }
 
-fn put_marking(from: &DecRefPicMarking, to: &mut raw::DecRefPicMarking) -> Result<(), Refusal> {
+/// The entries of one list, and how many there are. With a chroma denominator each has a chroma half, else none has: other lists are none.
+fn put_weight_list(
+    luma: &[Option<PredWeight>],
+    chroma: &[Vec<PredWeight>],
+    has_chroma: bool,
+    to: &mut WeightWords,
+) -> u32 {
+    if chroma.len() != if has_chroma { luma.len() } else { 0 } {
+        return NO_LIST;
+    }
+    for (w, to) in luma.iter().zip(to.chunks_exact_mut(8)) {
+        if let Some(w) = w {
+            to[..3].copy_from_slice(&[1, w.weight, w.offset]);
+        }
+    }
+    for (w, to) in chroma.iter().zip(to.chunks_exact_mut(8)) {
+        match w.as_slice() {
+            [] => {}
+            [cb, cr] => to[3..].copy_from_slice(&[1, cb.weight, cb.offset, cr.weight, cr.offset]),
+            _ => return NO_LIST,
+        }
+    }
+    u32::try_from(luma.len()).unwrap_or(NO_LIST)
+}
+
+fn put_marking(from: &DecRefPicMarking, h: &mut HeaderShort, words: &mut ListWords) {
     use MemoryManagementControlOperation::*;
     match from {
         DecRefPicMarking::Idr {
             no_output_of_prior_pics_flag,
             long_term_reference_flag,
         } => {
-            to.no_output_of_prior_pics_flag = flag(Some(*no_output_of_prior_pics_flag));
-            to.long_term_reference_flag = flag(Some(*long_term_reference_flag));
-            Ok(())
+            h.no_output_of_prior_pics_flag = flag(Some(*no_output_of_prior_pics_flag));
+            h.long_term_reference_flag = flag(Some(*long_term_reference_flag));
         }
         DecRefPicMarking::SlidingWindow => {
-            to.adaptive_ref_pic_marking_mode_flag = flag(Some(false));
-            Ok(())
+            h.adaptive_ref_pic_marking_mode_flag = flag(Some(false));
         }
         DecRefPicMarking::Adaptive(list) => {
-            to.adaptive_ref_pic_marking_mode_flag = flag(Some(true));
+            h.adaptive_ref_pic_marking_mode_flag = flag(Some(true));
             let entry = |operation: &_| match *operation {
                 ShortTermUnusedForRef {
                     difference_of_pic_nums_minus1,
@@ -248,7 +244,7 @@ fn put_marking(from: &DecRefPicMarking, to: &mut raw::DecRefPicMarking) -> Resul
                     long_term_frame_idx,
                 } => (6, long_term_frame_idx, 0),
             };
-            put_operations(list.iter().map(entry), &mut to.operations)
+            h.markings = put_operations(list.iter().map(entry), words);
         }
     }
 }

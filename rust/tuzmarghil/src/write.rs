@@ -42,8 +42,8 @@ pub fn write_header(
         b2,
         b3,
     };
-    let record = header.to_raw(table)?;
-    let answer = raw::write_header(table.as_raw(), first.into(), given, record, out);
+    let words = header.to_words(table);
+    let answer = raw::write_header(table.as_raw(), first.into(), given, &words, out);
     match answer.number {
         0 => Ok(answer.bits),
         number => Err(Refusal {

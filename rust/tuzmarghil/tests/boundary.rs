@@ -152,8 +152,24 @@ fn put<T: Copy, const N: usize>(words: &mut [T], entries: &[[T; N]]) {
     words[..entries.len()].copy_from_slice(&entries);
 }
 
+/// Zeroes the entries that the counts in words say are in use, at most as many as there are.
+fn empty(words: &mut raw::Words) {
+    fn zero<T: Default>(words: &mut [T], size: usize, count: u32) {
+        for word in words.iter_mut().take(size * count as usize) {
+            *word = T::default();
+        }
+    }
+    let n = &words.numbers;
+    zero(&mut words.l0, 3, n[29]);
+    zero(&mut words.l1, 3, n[32]);
+    zero(&mut words.marking, 3, n[45]);
+    zero(&mut words.w0, 8, n[37]);
+    zero(&mut words.w1, 8, n[38]);
+}
+
 /// What reading `b_field` does to words.
 fn b_field_words(words: &mut raw::Words) {
+    empty(words);
     words.numbers = [
         41, 6, 77, 5, // the lead
         0, 0, 300, 1, 1, 1, 1, 0, 0, // frame
@@ -261,13 +277,10 @@ fn fields_arrive() {
     assert_eq!(slice.header, want);
     assert_eq!(slice.header.slice_qp(&picture), 13);
 
-    // and back to the record that the library gave
+    // and back to the words that the library gave
     let (mut words, mut out) = (raw::Words::default(), raw::ReadOut::default());
     read_unit_raw(&table, &unit, &mut scratch, &mut words, &mut out);
-    assert_eq!(
-        slice.header.to_raw(&table),
-        Ok(raw::whole(&words.header(), &words))
-    );
+    assert_eq!(slice.header.to_words(&table), words);
 }
 
 /// Words that hold something everywhere, so that it shows what a reading does to them.
@@ -287,7 +300,10 @@ fn full() -> raw::Words {
 /// Units of every answer, with the answer and what reading does to words.
 fn answers(slice: &[u8]) -> [(Vec<u8>, u32, fn(&mut raw::Words)); 5] {
     let cleared = |words: &mut raw::Words| *words = raw::Words::default();
-    let of_prefix = |words: &mut raw::Words| put(&mut words.base, &[[1, 61, 0], [2, 62, 0]]);
+    let of_prefix = |words: &mut raw::Words| {
+        words.base = [0; 198];
+        put(&mut words.base, &[[1, 61, 0], [2, 62, 0]]);
+    };
     // its bits run out after all lists are read
     let torn = slice[..slice.len() - 3].to_vec();
     [
@@ -299,7 +315,8 @@ fn answers(slice: &[u8]) -> [(Vec<u8>, u32, fn(&mut raw::Words)); 5] {
     ]
 }
 
-/// A slice writes its fields and the entries of its lists, a prefix unit the entries of its own; other words stay as they were, but a refusal clears all.
+/// A slice zeroes the entries in use and writes its fields and the entries of its lists, a prefix unit writes all words of its own list; other words stay as they
+/// were, but a refusal clears all.
 #[test]
 fn words_arrive() {
     let (table, slice, ..) = b_field();
@@ -371,7 +388,7 @@ fn earlier_words_do_not_show() {
     let (mut scratch, mut out) = (vec![0; earlier.len()], raw::ReadOut::default());
     let mut headers = vec![];
     for unit in [b_frame, i_frame, bare_prefix] {
-        let (mut kept, mut fresh) = (full(), raw::Words::default());
+        let (mut kept, mut fresh) = (raw::Words::default(), raw::Words::default());
         for before in [&earlier, &prefix_unit()] {
             read_unit_raw(&table, before, &mut scratch, &mut kept, &mut out);
         }
@@ -381,9 +398,10 @@ fn earlier_words_do_not_show() {
         assert_eq!(told, Unit::from_raw(&unit, &out, &fresh));
         match told {
             Ok(Unit::Slice(slice)) => {
-                let whole = raw::whole(&kept.header(), &kept);
-                assert_eq!(whole, raw::whole(&fresh.header(), &fresh));
-                assert_eq!(slice.header.to_raw(&table), Ok(whole));
+                fresh.base = kept.base;
+                assert_eq!(kept, fresh);
+                fresh.base = [0; 198];
+                assert_eq!(slice.header.to_words(&table), fresh);
                 headers.push(slice.header);
             }
             Ok(Unit::Prefix(prefix)) => {
