@@ -209,4 +209,5 @@ def main():
     print(f"promises: {len(public)} public functions of {len(listed)} crates, each with a contract, no requires and a row in {PAGE}; {examples} examples tried")
 
 
-main()
+if __name__ == "__main__":
+    main()

@@ -1,7 +1,7 @@
 -- The three demands, theorem by theorem. docs/PROMISES.md says each in words. All stand over the public definitions: `unitRead`, `writeHeader`, `putSequence`,
 -- `putPicture`, `walked` and `reports`, which are what the functions' contracts name.
 use Prim.Native.Nat.{ℕ, _+_, _≤_}
-use mathlib.Core.Path.{_≡_, sym, subst}
+use mathlib.Core.Path.{_≡_, sym, subst, subst⁻¹}
 use mathlib.Core.List.{List, _++_, map}
 use mathlib.Core.Bool.{true, _&&_}
 use lib.Dec.{T, leb, eqb}
@@ -21,7 +21,6 @@ use Rattle.table.specs.Tables.{sequencePut, picturePut, putSequence, putPicture
 use Rattle.syntax.specs.declared.context.UnitKind.{UnitKind}
 use Rattle.syntax.specs.declared.record.SliceHeader.{SliceHeader}
 use Rattle.syntax.specs.SliceHeader.{header, anySet, readHeader}
-use Rattle.syntax.proofs.Header.{Stands}
 use Rattle.syntax.proofs.Header as syntax
 use Rattle.lists.specs.Absent.{noPrefix}
 use Rattle.unit.specs.declared.answer.UnitAnswer.{UnitAnswer}
@@ -42,8 +41,8 @@ use Rattle.writer.specs.Write.{writeHeader}
 use Rattle.writer.proofs.Answers.{wrote}
 use Rattle.writer.proofs.Units.{slice-reads}
 use Rattle.writer.proofs.RoundTrip as writer
-use Rattle.writer.proofs.Refusing.{refused-with, told-starts, Turned, none-reads, unread-turned}
-use Rattle.promises.specs.Demands.{oneOf, readNumbers, writeNumbers, scratchAfter, unitOf, firstOf, extensionIn, bodyOf, bodyBits}
+use Rattle.writer.proofs.Refusing.{refused-with, told-starts, none-reads, unread-turned}
+use Rattle.promises.specs.Demands.{oneOf, readNumbers, writeNumbers, scratchAfter, unitOf, firstOf, extensionIn, bodyOf, bodyBits, Stands, UpTo25}
 use Rattle.promises.proofs.Cases.{Alone, unit-fine, unit-left, Idle, walk-idle, not-done}
 
 -- ---- demand 1: every call answers as the rules say, for refused input too, and leaves nothing behind that they do not name
@@ -98,10 +97,10 @@ module _ (t : Table) (unit scratch : List ℕ) where
 -- and that is: a record is read exactly where its own bits stand at the front, and a bit is set behind the one that follows them
 module _ (t : Table) (k : UnitKind) (s : Bits) (h : SliceHeader) (e : ℕ) where
   pub demand-2-stands : readHeader t k s ≡ got h e → Stands t k s h e
-  demand-2-stands = syntax.rewrites t k s h e
+  demand-2-stands r = let z = syntax.rewrites t k s h e r in (z .is-good, (z .size, (z .bits-are, z .more)))
 
   pub demand-2-accepts : Stands t k s h e → readHeader t k s ≡ got h e
-  demand-2-accepts = syntax.reads t k s h e
+  demand-2-accepts z = syntax.reads t k s h e (record { is-good = z .0; size = z .1 .0; bits-are = z .1 .1 .0; more = z .1 .1 .1 })
 
 -- what is written reads back, in every unit that starts as the writer was told and whose body starts with the bits written
 pub demand-2-reads-back : (t : Table) (first : ℕ) (x : ExtensionGiven) (h : SliceHeader) (out : List ℕ) {n : ℕ} {left : List ℕ}
@@ -128,8 +127,8 @@ module _ (t : Table) (first : ℕ) (x : ExtensionGiven) (h : SliceHeader) (out :
       → unitRead t (unitOf first x v) scratch .read .answer ≡ UnitAnswer.Slice e → unitRead t (unitOf first x v) scratch .read .header ≡ h → ⊥
   demand-2-25-exact = none-reads t first x h out
 
-  pub demand-2-25-given : ((k : UnitKind) (s : Bits) (e : ℕ) → readHeader t k s ≡ got h e → ⊥) → Turned (writeHeader t first x h out .answer)
-  demand-2-25-given = unread-turned t first x h out
+  pub demand-2-25-given : ((k : UnitKind) (s : Bits) (e : ℕ) → readHeader t k s ≡ got h e → ⊥) → UpTo25 (writeHeader t first x h out .answer)
+  demand-2-25-given n = let z = unread-turned t first x h out n in subst⁻¹ UpTo25 (z .is) (z .number)
 
 -- ---- demand 3: damage stays where it is
 

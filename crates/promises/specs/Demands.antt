@@ -1,16 +1,22 @@
 -- What the demands' theorems speak of beside the public definitions: lists of refusal numbers, what reading a unit leaves in scratch, and the parts of a unit.
-use Prim.Native.Nat.{ℕ}
+use Prim.Native.Nat.{ℕ, _+_}
+use mathlib.Core.Path.{_≡_}
 use mathlib.Core.List.{List, [], _∷_}
 use mathlib.Core.Bool.{Bool, true, false, _||_}
-use lib.Dec.{eqb, leb}
-use lib.ListN.{length, getD, drop}
+use lib.Dec.{T, eqb, leb}
+use lib.ListN.{length, getD, take, drop}
 use Rattle.bits.specs.Refusals.{pick}
 use Rattle.bits.specs.Bits.{Bits, bytesBits}
+use Rattle.table.specs.declared.table.Table.{Table}
+use Rattle.syntax.specs.declared.context.UnitKind.{UnitKind}
+use Rattle.syntax.specs.declared.record.SliceHeader.{SliceHeader}
+use Rattle.syntax.specs.SliceHeader.{header, anySet}
 use Rattle.escape.specs.Body.{body, startWith}
 use Rattle.header.specs.Kinds.{isExtended}
 use Rattle.unit.specs.declared.begin.Begun.{Begun}
 use Rattle.unit.specs.Begin.{begun}
 use Rattle.writer.specs.declared.given.ExtensionGiven.{ExtensionGiven}
+use Rattle.writer.specs.declared.write.HeaderWrote.{HeaderWrote}
 
 abbrev pub oneOf : List ℕ → ℕ → Bool
 oneOf [] n = false
@@ -57,3 +63,15 @@ bodyOf u = drop (pick (isLong (firstOf u)) 4 1) u
 -- the bits of a body, unescaped
 abbrev pub bodyBits : List ℕ → Bits
 bodyBits v = bytesBits (body 0 v)
+
+-- ---- headers
+
+-- a good record's bits stand at the front of s and end at e, and a bit is set strictly behind the one that follows them
+abbrev pub Stands : Table → UnitKind → Bits → SliceHeader → ℕ → Type 0
+Stands t k s h e =
+    T (header t k .good h) × ((e ≡ length (header t k .bits h)) × ((take e s ≡ header t k .bits h) × (anySet (drop (e + 1) s) ≡ true)))
+
+-- the writer's answer is one of its checks up to 25: neither bits nor 26
+abbrev pub UpTo25 : HeaderWrote → Type 0
+UpTo25 (HeaderWrote.Bits n) = ⊥
+UpTo25 (HeaderWrote.Refused r) = T (oneOf (2 ∷ 3 ∷ 4 ∷ 13 ∷ 8 ∷ 9 ∷ 10 ∷ 25 ∷ []) (r .number))
