@@ -133,10 +133,10 @@ class Tree:
 
 
 def section(path, heading):
-    """The files of specs/ that a page names under a heading, in rows `| crate | files, .. | .. |`."""
+    """The files of specs/ that a page names under a heading, in lines "- `crate`, ..: `File`, .. (what they say)"."""
     text = (ROOT / path).read_text().partition(f"## {heading}\n")[2].partition("\n## ")[0]
-    rows = [line.split("|")[1:3] for line in text.splitlines() if line.startswith("| `")]
-    return {(crate, "specs", name) for cells in rows for crate in re.findall(r"`(\w+)`", cells[0]) for name in re.findall(r"`(\w+)`", cells[1])}
+    lines = [line[2:].partition(" (")[0].partition(": ") for line in text.splitlines() if line.startswith("- `")]
+    return {(crate, "specs", name) for crates, _, files in lines for crate in re.findall(r"`(\w+)`", crates) for name in re.findall(r"`(\w+)`", files)}
 
 
 def differences(page, told, found):

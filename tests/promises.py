@@ -1,5 +1,5 @@
 #!/usr/bin/env python3
-"""Every public function has a contract that says something of its result and of all that it is lent, no `requires`, and a row in docs/PROMISES.md; no row names
+"""Every public function has a contract that says something of its result and of all that it is lent, no `requires`, and a row in docs/CONTRACTS.md; no row names
 a function that is not there; every crate with public functions has must-fail edits.
 
 Reads crates/*/src/*.rt as text: finds every public `fn`, then its arguments and clauses. First it is tried itself, on examples with the faults that it is to
@@ -11,7 +11,7 @@ import sys
 from typing import NamedTuple
 
 ROOT = pathlib.Path(__file__).resolve().parent.parent
-PAGE = "docs/PROMISES.md"
+PAGE = "docs/CONTRACTS.md"
 ASIDE = re.compile(r"//[^\n]*|\"(?:\\.|[^\"\\])*\"|b'(?:\\.|[^'\\])'")
 PUBLIC = re.compile(r"\bpub\s+(?:(?:const|unsafe|extern|\"C\")\s+)*fn\s+(\w+)")
 IMPL = re.compile(r"\bimpl\b(?:\s*<[^>]*>)?\s+(\w+)[^{;]*\{")
