@@ -1,1 +1,4 @@
 pub mod Marked
+pub mod Numbers
+pub mod Cases
+pub mod Demands

@@ -4,20 +4,21 @@ use mathlib.Core.List.{List, [], _∷_}
 use Prim.Native.Nat.{ℕ}
 use lib.IntN.{ℤ, pos, negsuc}
 use lib.ListN.{length, replicate}
-use Rattle.bits.specs.Refusals.{Res, got, no, refusal}
+use Rattle.bits.specs.Refusals.{Res, got, refusal}
 use Rattle.bits.specs.Bits.{bitsOf}
 use Rattle.bits.specs.Codes.{ueAt, seAt}
 use Rattle.bits.specs.Width.{changeCycleWidth}
 use Rattle.escape.specs.Body.{body}
-use Rattle.syntax.specs.declared.record.SliceHeader.{SliceHeader}
-use Rattle.syntax.specs.SliceHeader.{readHeader}
-use Rattle.syntax.specs.Sample.{sampleTable, sampleKind, sampleHeader}
+use Rattle.syntax.specs.Sample.{sampleTable, sampleHeader}
 use Rattle.lists.specs.Absent.{noPrefix}
 use Rattle.unit.specs.declared.answer.UnitAnswer.{UnitAnswer}
 use Rattle.unit.specs.declared.answer.UnitRead.{UnitRead}
 use Rattle.unit.specs.Answer.{only}
+use Rattle.unit.specs.Unit.{unitRead}
 use Rattle.walk.specs.Units.{Report}
 use Rattle.walk.specs.Reports.{reports}
+use Rattle.lines.specs.Text.{words}
+use Rattle.listed.specs.Listing.{listing}
 
 pub data Example : Type 0 where
   -- bytes whose first code is read, and what reading gives
@@ -25,24 +26,31 @@ pub data Example : Type 0 where
   se : List ℕ → Res ℤ → Example
   -- the rest of a unit, and its unescaped body
   unescaped : List ℕ → List ℕ → Example
-  -- the body of a unit with first byte 65, and its header, read with the sample sets
-  header : List ℕ → Res SliceHeader → Example
+  -- a unit, and what reading it gives, with the sample sets and scratch of its length
+  unit : List ℕ → UnitRead → Example
   -- size, rate, and the change cycle's width
   width : ℕ → ℕ → ℕ → Example
   -- a recording, and the reports of a walk over it with the sample sets and scratch of its length
   walk : List ℕ → List (Report UnitRead) → Example
+  -- a recording, and its listing with the sample sets
+  listed : List ℕ → List ℕ → Example
 
 abbrev pub Holds : Example → Type 0
 Holds (ue s r) = ueAt (bitsOf s) 0 ≡ r
 Holds (se s r) = seAt (bitsOf s) 0 ≡ r
 Holds (unescaped s b) = body 0 s ≡ b
-Holds (header s r) = readHeader sampleTable sampleKind (bitsOf s) ≡ r
+Holds (unit s r) = unitRead sampleTable s (replicate (length s) 0) .read ≡ r
 Holds (width size rate b) = changeCycleWidth size rate ≡ b
 Holds (walk s rs) = reports sampleTable (replicate (length s) 0) s ≡ rs
+Holds (listed s text) = listing sampleTable (replicate (length s) 0) s ≡ text
 
 abbrev pub All : List Example → Type 0
 All [] = Unit {0}
 All (e ∷ es) = Holds e × All es
+
+-- the recording of P12
+abbrev pub recording : List ℕ
+recording = 0 ∷ 0 ∷ 0 ∷ 1 ∷ 0x65 ∷ 0x88 ∷ 0x84 ∷ 0xA0 ∷ 0 ∷ 0 ∷ 1 ∷ 0x09 ∷ 0xF0 ∷ []
 
 abbrev pub marked : List Example
 marked =
@@ -57,19 +65,20 @@ marked =
     -- P5
     ∷ unescaped (0 ∷ 0 ∷ 3 ∷ 0 ∷ 0 ∷ 3 ∷ 1 ∷ []) (0 ∷ 0 ∷ 0 ∷ 0 ∷ 1 ∷ [])
     -- P6 `65 88 84 A0`
-    ∷ header (0x88 ∷ 0x84 ∷ 0xA0 ∷ []) (got sampleHeader 17)
+    ∷ unit (0x65 ∷ 0x88 ∷ 0x84 ∷ 0xA0 ∷ []) (record { answer = UnitAnswer.Slice 17; header = sampleHeader; prefix = noPrefix })
     -- P7 `65 88 84 80`
-    ∷ header (0x88 ∷ 0x84 ∷ 0x80 ∷ []) (no (refusal 22 (pos 0) 17))
+    ∷ unit (0x65 ∷ 0x88 ∷ 0x84 ∷ 0x80 ∷ []) (only (UnitAnswer.Refused (refusal 22 (pos 0) 17)))
     -- P8 `65 88 84 C0`
-    ∷ header (0x88 ∷ 0x84 ∷ 0xC0 ∷ []) (no (refusal 22 (pos 0) 17))
+    ∷ unit (0x65 ∷ 0x88 ∷ 0x84 ∷ 0xC0 ∷ []) (only (UnitAnswer.Refused (refusal 22 (pos 0) 17)))
     -- P9, P10, P11
     ∷ width 99 11 4
     ∷ width 7 1 3
     ∷ width 8 1 4
     ∷ width 1 5 1
     -- P12
-    ∷ walk (0 ∷ 0 ∷ 0 ∷ 1 ∷ 0x65 ∷ 0x88 ∷ 0x84 ∷ 0xA0 ∷ 0 ∷ 0 ∷ 1 ∷ 0x09 ∷ 0xF0 ∷ [])
+    ∷ walk recording
     (record { place = 4; length = 4; next = 8; read = record { answer = UnitAnswer.Slice 17; header = sampleHeader; prefix = noPrefix } }
     ∷ record { place = 11; length = 2; next = 13; read = only (UnitAnswer.Other 9) }
     ∷ [])
+    ∷ listed recording (words "unit place=4 length=4 slice type=7 frame=0 qp=26\nunit place=11 length=2 other type=9\nend units=2 refused=0\n")
     ∷ []

@@ -11,3 +11,4 @@ pub mod Copies
 pub mod Known
 pub mod Units
 pub mod RoundTrip
+pub mod Refusing

@@ -62,11 +62,11 @@ pub record Extended (t : ℕ) : Type 0 where
 types-extended : (t : ℕ) → (eqb t 20 || eqb t 21) ≡ true → Extended t
 types-extended t e = by-type Extended 20 21 t e (record { not-plain = refl; has = refl; not-prefix = refl }) (record { not-plain = refl; has = refl; not-prefix = refl })
 
-plain-short : (t : ℕ) → isPlain t ≡ true → (eqb t 20 || eqb t 21) ≡ false
+pub plain-short : (t : ℕ) → isPlain t ≡ true → (eqb t 20 || eqb t 21) ≡ false
 plain-short t e = by-type (λ (i : ℕ). (eqb i 20 || eqb i 21) ≡ false) 1 5 t e refl refl
 
 -- a refusal is no kind
-never-of : {P : Type 0} {r : Refusal} {k : UnitKind} → KindGiven.Refused r ≡ KindGiven.Of k → P
+pub never-of : {P : Type 0} {r : Refusal} {k : UnitKind} → KindGiven.Refused r ≡ KindGiven.Of k → P
 never-of q = absurd (let z : _≡_ {A = ℕ} 0 1 = (cc q) in omega arith)
 
 -- what begins as something else is no slice

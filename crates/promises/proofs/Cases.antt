@@ -1,0 +1,159 @@
+-- Reading a unit and walking by cases, for the demands' theorems: what a refusal goes with, and what is left in scratch.
+use Prim.Native.Nat.{ℕ}
+use mathlib.Core.Path.{_≡_, refl}
+use mathlib.Core.List.{List, [], _∷_}
+use mathlib.Core.Bool.{Bool, true, false}
+use lib.Dec.{T, leb, eqb}
+use lib.IntN.{pos}
+use lib.ListN.{length, drop}
+use native.Mathlib.Omega.{arith}
+use Rattle.bits.specs.Refusals.{Res, got, no, pick, refusal, tooLarge, limit}
+use Rattle.bits.specs.Bits.{Bits, bytesBits}
+use Rattle.bits.specs.declared.refusals.Refusal.{Refusal}
+use Rattle.bits.proofs.Results.{cases}
+use Rattle.nal.specs.declared.header.NalHeader.{NalHeader}
+use Rattle.nal.specs.Header.{forbiddenZeroBitOf, headerFrom, headerOf}
+use Rattle.nal.specs.Extension.{extensionOf}
+use Rattle.escape.specs.Body.{body}
+use Rattle.table.specs.declared.table.Table.{Table}
+use Rattle.table.specs.declared.words.Changed.{Changed}
+use Rattle.syntax.specs.declared.context.UnitKind.{UnitKind}
+use Rattle.syntax.specs.declared.record.SliceHeader.{SliceHeader}
+use Rattle.syntax.specs.declared.record.Prefix.{Prefix}
+use Rattle.syntax.specs.SliceHeader.{readHeader}
+use Rattle.syntax.specs.Prefix.{prefix}
+use Rattle.unit.specs.declared.answer.UnitAnswer.{UnitAnswer}
+use Rattle.unit.specs.declared.answer.UnitRead.{UnitRead}
+use Rattle.unit.specs.declared.begin.Begun.{Begun}
+use Rattle.unit.specs.Answer.{only, sliceAnswer, prefixAnswer}
+use Rattle.unit.specs.Begin.{typeIn, isPlain, hasExtension, extended, withExtension, typed, withHeader, begun}
+use Rattle.unit.specs.Unit.{inBody, sliceBits, prefixBits, afterBegin, unitRead}
+use Rattle.walk.specs.declared.search.Found.{Found}
+use Rattle.walk.specs.declared.walk.Step.{Step}
+use Rattle.walk.specs.Walk.{nextUnit}
+use Rattle.walk.specs.Walked.{nothing, afterSearch, walked}
+use Rattle.promises.specs.Demands.{oneOf, readNumbers, bodyLeft, leftBy, scratchAfter}
+use Rattle.promises.proofs.Numbers.{Known, header-known, prefix-known}
+
+-- ---- what is read
+
+-- a refusal has one of the numbers, and stands by itself
+abbrev pub Alone : UnitRead → UnitAnswer → Type 0
+Alone x (UnitAnswer.Slice n) = Unit {0}
+Alone x UnitAnswer.«Prefix» = Unit {0}
+Alone x (UnitAnswer.Other id) = Unit {0}
+Alone x (UnitAnswer.Refused r) = (x ≡ only (UnitAnswer.Refused r)) × T (oneOf readNumbers (r .number))
+
+abbrev Fine : UnitRead → Type 0
+Fine x = Alone x (x .answer)
+
+slice-fine : (m : Res SliceHeader) → Known m → Fine (sliceAnswer m)
+unfolding only
+slice-fine (got h e) k = tt
+slice-fine (no r) k = (refl, k)
+
+prefix-fine : (m : Res Prefix) → Known m → Fine (prefixAnswer m)
+unfolding only
+prefix-fine (got p e) k = tt
+prefix-fine (no r) k = (refl, k)
+
+-- an answer without a record
+other-fine : (id : ℕ) → Fine (only (UnitAnswer.Other id))
+unfolding only
+other-fine id = tt
+
+refused-fine : (r : Refusal) → T (oneOf readNumbers (r .number)) → Fine (only (UnitAnswer.Refused r))
+unfolding only
+refused-fine r k = (refl, k)
+
+-- ---- the first bytes
+
+abbrev Begins : Begun → Type 0
+Begins (Begun.Slice kind from) = Unit {0}
+Begins (Begun.«Prefix» there) = Unit {0}
+Begins (Begun.Other id) = Unit {0}
+Begins (Begun.Refused r) = T (oneOf readNumbers (r .number))
+
+begins-by : (c : Bool) (a b : Begun) → Begins a → Begins b → Begins (pick c a b)
+begins-by true a b f g = f
+begins-by false a b f g = g
+
+extended-begins : (unit : List ℕ) (h : NalHeader) → Begins (withExtension h (extensionOf unit))
+unfolding extensionOf extended
+extended-begins unit h = cases (leb 4 (length unit)) (λ i. rw i (begins-by (eqb (typeIn h) 14) _ _ tt tt)) (λ i. rw i tt)
+
+typed-begins : (unit : List ℕ) (h : NalHeader) → Begins (typed unit h)
+unfolding typed
+typed-begins unit h = begins-by (isPlain (typeIn h)) _ _ tt (begins-by (hasExtension (typeIn h)) _ _ (extended-begins unit h) tt)
+
+header-begins : (unit : List ℕ) → Begins (withHeader unit (headerOf unit))
+unfolding headerOf headerFrom
+header-begins [] = tt
+header-begins (b ∷ s) = cases (eqb (forbiddenZeroBitOf b) 0) (λ i. rw i (typed-begins (b ∷ s) _)) (λ i. rw i tt)
+
+begun-begins : (unit : List ℕ) → Begins (begun unit)
+unfolding begun
+begun-begins unit = begins-by (leb (length unit) limit) _ _ (header-begins unit) tt
+
+-- ---- the whole unit
+
+module _ (t : Table) (unit scratch : List ℕ) where
+  in-body : (reads : Bits → UnitRead) (from : ℕ) → ((s : Bits) → Fine (reads s)) → Fine (inBody reads unit from scratch .read)
+  unfolding inBody only
+  in-body reads from f = cases (leb (length unit) (length scratch)) (λ i. rw i (f (bytesBits (body 0 (drop from unit))))) (λ i. rw i (refl, tt))
+
+  slice-bits : (kind : UnitKind) (s : Bits) → Fine (sliceBits t kind s)
+  unfolding sliceBits
+  slice-bits kind s = slice-fine (readHeader t kind s) (header-known t kind s)
+
+  prefix-bits : (there : Bool) (s : Bits) → Fine (prefixBits there s)
+  unfolding prefixBits
+  prefix-bits there s = prefix-fine (prefix there .read s 0) (prefix-known there s)
+
+  pub unit-fine : Fine (unitRead t unit scratch .read)
+  unfolding unitRead
+  unit-fine = go (begun unit) (begun-begins unit)
+    where
+      go : (b : Begun) → Begins b → Fine (afterBegin t unit scratch b .read)
+      go (Begun.Slice kind from) k = in-body (sliceBits t kind) from (slice-bits kind)
+      go (Begun.«Prefix» there) k = in-body (prefixBits there) 4 (prefix-bits there)
+      go (Begun.Other id) k = other-fine id
+      go (Begun.Refused r) k = refused-fine r k
+
+  body-left : (reads : Bits → UnitRead) (from : ℕ) → inBody reads unit from scratch .left ≡ bodyLeft unit from scratch
+  unfolding inBody
+  body-left reads from = cases (leb (length unit) (length scratch)) (λ i. rw i) (λ i. rw i)
+
+  pub unit-left : unitRead t unit scratch .left ≡ scratchAfter unit scratch
+  unfolding unitRead
+  unit-left = go (begun unit)
+    where
+      go : (b : Begun) → afterBegin t unit scratch b .left ≡ leftBy b unit scratch
+      go (Begun.Slice kind from) = body-left _ from
+      go (Begun.«Prefix» there) = body-left _ 4
+      go (Begun.Other id) = refl
+      go (Begun.Refused r) = refl
+
+-- ---- a step of the walk
+
+-- a step to no unit leaves scratch as it was; one that is refused is 27
+abbrev pub Idle : List ℕ → List ℕ → Step → Type 0
+Idle scratch left (Step.Unit place length next) = Unit {0}
+Idle scratch left Step.End = left ≡ scratch
+Idle scratch left (Step.Refused r) = (left ≡ scratch) × (r ≡ refusal tooLarge (pos 0) 0)
+
+module _ (t : Table) (s : List ℕ) (from : ℕ) (scratch : List ℕ) where
+  searched : (f : Found) → Idle scratch (afterSearch t s scratch f .left) (afterSearch t s scratch f .walked .step)
+  unfolding nothing
+  searched (Found.At place length next) = tt
+  searched Found.End = refl
+
+  pub walk-idle : Idle scratch (walked t s from scratch .left) (walked t s from scratch .walked .step)
+  unfolding walked nothing
+  walk-idle = cases (leb (length s) limit) (λ i. rw i (searched (nextUnit s from))) (λ i. rw i (refl, refl))
+
+-- ---- the table
+
+-- what is done is not refused
+pub not-done : {P : Type 0} {r : Refusal} → Changed.Done ≡ Changed.Refused r → P
+not-done e = absurd (let z : _≡_ {A = ℕ} 0 1 = (cc e) in omega arith)
