@@ -4,16 +4,14 @@ use crate::answer::{self, Text};
 use crate::words;
 use anyhow::{ensure, Context, Result};
 use std::io::{BufRead, Write};
-use tuzmarghil::raw::{self, ReadOut, Words};
-use tuzmarghil::{read_unit_raw, write_header, Table, Unit};
+use tuzmarghil::{raw, write_header, Reading, Table, Unit, UnitReader};
 
 pub fn run(cases: &mut impl BufRead, rewrite: bool, to: &mut impl Write) -> Result<()> {
     let mut table = Table::new();
     // the words that the table was made of
     let mut made = String::new();
-    let (mut line, mut unit, mut scratch) = (String::new(), Vec::new(), Vec::new());
-    let mut said = Vec::new();
-    let (mut read, mut kept) = (ReadOut::default(), Words::default());
+    let (mut line, mut unit) = (String::new(), Vec::new());
+    let (mut said, mut reader) = (Vec::new(), UnitReader::default());
     for number in 1u64.. {
         line.clear();
         if cases.read_line(&mut line).context("reading")? == 0 {
@@ -32,27 +30,26 @@ pub fn run(cases: &mut impl BufRead, rewrite: bool, to: &mut impl Write) -> Resu
             made.push_str(sets);
         }
         words::unit(last, &mut unit).with_context(place)?;
-        if scratch.len() < unit.len() {
-            scratch.resize(unit.len(), 0);
-        }
-        read_unit_raw(&table, &unit, &mut scratch, &mut kept, &mut read);
+        let reading = reader.read(&table, &unit);
+        let (read, words) = reading.raw();
         said.clear();
-        answer::write(&unit, &read, &kept, &mut Text(&mut said));
+        answer::write(&unit, read, words, &mut Text(&mut said));
         said.push(b'\n');
         to.write_all(&said)?;
         if rewrite && read.answer == 1 {
-            rewritten(&table, &unit, &scratch, &read, &kept).with_context(place)?;
+            rewritten(&table, &reading).with_context(place)?;
         }
     }
     Ok(())
 }
 
 /// Gives the header that was read Rust's types, takes it back to a record, writes that, and compares: the record, the answer, the bits, and what is left as it was.
-fn rewritten(table: &Table, unit: &[u8], body: &[u8], read: &ReadOut, words: &Words) -> Result<()> {
-    let slice = match Unit::from_raw(unit, read, words) {
+fn rewritten(table: &Table, reading: &Reading<'_>) -> Result<()> {
+    let slice = match reading.unit() {
         Ok(Unit::Slice(slice)) => slice,
         _ => return Ok(()),
     };
+    let ((read, words), body) = (reading.raw(), reading.scratch());
     ensure!(
         slice.header.to_raw(table)? == raw::whole(&words.header(), words),
         "another record comes back"

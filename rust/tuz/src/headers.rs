@@ -28,6 +28,7 @@ pub fn run(clip: &Clip, format: Format, to: &mut impl Write) -> Result<Totals> {
         totals.take(r);
         line.clear();
         let (place, length) = (r.place as i64, r.length as i64);
+        let (bytes, (read, words)) = (r.bytes(), r.raw());
         match format {
             Format::Text => {
                 line.extend_from_slice(b"unit place=");
@@ -35,14 +36,14 @@ pub fn run(clip: &Clip, format: Format, to: &mut impl Write) -> Result<Totals> {
                 line.extend_from_slice(b" length=");
                 number(&mut line, length);
                 line.push(b' ');
-                answer::write(r.bytes, r.read, r.words, &mut Text(&mut line));
+                answer::write(bytes, read, words, &mut Text(&mut line));
             }
             Format::Json => {
                 line.extend_from_slice(b"{\"place\":");
                 number(&mut line, place);
                 line.extend_from_slice(b",\"length\":");
                 number(&mut line, length);
-                answer::write(r.bytes, r.read, r.words, &mut Json(&mut line));
+                answer::write(bytes, read, words, &mut Json(&mut line));
                 line.push(b'}');
             }
             Format::Csv => {
@@ -50,7 +51,7 @@ pub fn run(clip: &Clip, format: Format, to: &mut impl Write) -> Result<Totals> {
                 line.push(b',');
                 number(&mut line, length);
                 let mut row = Row(&mut line, &NAMES);
-                answer::write(r.bytes, r.read, r.words, &mut row);
+                answer::write(bytes, read, words, &mut row);
                 row.end();
             }
         }

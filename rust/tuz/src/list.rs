@@ -20,17 +20,17 @@ pub fn run(clip: &Clip, to: &mut impl Write) -> Result<Totals> {
 
 fn line(table: &Table, r: &StreamReport<'_>, to: &mut impl Write) -> Result<()> {
     write!(to, "unit place={} length={} ", r.place, r.length)?;
-    let read = r.read;
+    let (read, words) = r.raw();
     match read.answer {
         0 => writeln!(to, "other type={}", read.number)?,
         1 => {
-            let header = r.words.header();
+            let header = words.header();
             let (kind, frame) = (header.slice_type, header.frame.frame_num);
             let qp = slice_qp(table, &header);
             writeln!(to, "slice type={kind} frame={frame} qp={qp}")?;
         }
         2 => {
-            let ext = match NalHeaderExtension::of_unit(r.bytes) {
+            let ext = match NalHeaderExtension::of_unit(r.bytes()) {
                 Some(NalHeaderExtension::Svc(_)) => "svc",
                 _ => "mvc",
             };

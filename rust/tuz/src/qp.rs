@@ -36,10 +36,10 @@ pub fn run(
     let mut points = Vec::new();
     clip.units(&table, |r| {
         totals.take(r);
-        let (place, length, read) = (r.place, r.length, r.read);
+        let (place, length, (read, words)) = (r.place, r.length, r.raw());
         match read.answer {
             1 => {
-                let header = r.words.header();
+                let header = words.header();
                 let (slice_type, frame_num) = (header.slice_type, header.frame.frame_num);
                 let qp = slice_qp(&table, &header);
                 let name = TYPES[slice_type as usize % 5];

@@ -20,9 +20,10 @@ impl Totals {
     pub fn take(&mut self, r: &StreamReport<'_>) {
         self.units += 1;
         self.bytes += r.length;
-        match r.read.answer {
+        let (read, words) = r.raw();
+        match read.answer {
             0 => self.others += 1,
-            1 => self.slices[r.words.header().slice_type as usize % 5] += 1,
+            1 => self.slices[words.header().slice_type as usize % 5] += 1,
             2 => self.prefixes += 1,
             _ => self.refused += 1,
         }

@@ -24,8 +24,9 @@ fn run(words: &[String]) -> Result<(), Box<dyn error::Error>> {
     let (mut units, mut slices, mut refused) = (0, 0, 0);
     while let Some(report) = stream.next(&table)? {
         units += 1;
-        slices += u64::from(report.read.answer == 1);
-        refused += u64::from(report.read.answer == 3);
+        let answer = report.raw().0.answer;
+        slices += u64::from(answer == 1);
+        refused += u64::from(answer == 3);
     }
     println!("units={units} slices={slices} refused={refused}");
     Ok(())

@@ -55,7 +55,7 @@ pub use slice::{
 };
 pub use stream::{Stream, StreamReport};
 pub use table::Table;
-pub use unit::{read_unit, read_unit_raw, Slice, Unit};
+pub use unit::{read_unit, Reading, Slice, Unit, UnitReader};
 pub use walk::{reports, Report, Reports};
 pub use write::write_header;
 

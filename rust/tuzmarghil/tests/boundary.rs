@@ -263,7 +263,7 @@ fn fields_arrive() {
 
     // and back to the record that the library gave
     let (mut words, mut out) = (raw::Words::default(), raw::ReadOut::default());
-    read_unit_raw(&table, &unit, &mut scratch, &mut words, &mut out);
+    raw::read_unit(table.as_raw(), &unit, &mut scratch, &mut words, &mut out);
     assert_eq!(
         slice.header.to_raw(&table),
         Ok(raw::whole(&words.header(), &words))
@@ -307,7 +307,7 @@ fn words_arrive() {
     for (unit, answer, change) in answers(&slice) {
         let (mut words, mut want) = (full(), full());
         change(&mut want);
-        read_unit_raw(&table, &unit, &mut scratch, &mut words, &mut out);
+        raw::read_unit(table.as_raw(), &unit, &mut scratch, &mut words, &mut out);
         assert_eq!((out.answer, &words), (answer, &want));
         let markings = if answer == 2 { 2 } else { 0 };
         assert_eq!(out.prefix.base_markings, markings);
@@ -343,8 +343,9 @@ fn words_of_a_walk() {
         assert_eq!(reports.next().unwrap().unit, typed);
         let report = stream.next(&table).unwrap().unwrap();
         change(&mut kept);
-        assert_eq!((report.bytes, report.words), (&unit[..], &kept));
-        assert_eq!(*report.read, step.read);
+        let (read, words) = report.raw();
+        assert_eq!((report.bytes(), words), (&unit[..], &kept));
+        assert_eq!((*read, report.unit()), (step.read, typed));
     }
     assert_eq!((walk(&mut step, from), step.step), (full(), 0));
     assert!(reports.next().is_none() && stream.next(&table).unwrap().is_none());
@@ -372,13 +373,15 @@ fn earlier_words_do_not_show() {
     let mut headers = vec![];
     for unit in [b_frame, i_frame, bare_prefix] {
         let (mut kept, mut fresh) = (full(), raw::Words::default());
+        let mut reader = UnitReader::default();
         for before in [&earlier, &prefix_unit()] {
-            read_unit_raw(&table, before, &mut scratch, &mut kept, &mut out);
+            raw::read_unit(table.as_raw(), before, &mut scratch, &mut kept, &mut out);
+            reader.read(&table, before);
         }
-        read_unit_raw(&table, &unit, &mut scratch, &mut kept, &mut out);
-        let told = Unit::from_raw(&unit, &out, &kept);
-        read_unit_raw(&table, &unit, &mut scratch, &mut fresh, &mut out);
-        assert_eq!(told, Unit::from_raw(&unit, &out, &fresh));
+        raw::read_unit(table.as_raw(), &unit, &mut scratch, &mut kept, &mut out);
+        raw::read_unit(table.as_raw(), &unit, &mut scratch, &mut fresh, &mut out);
+        let told = reader.read(&table, &unit).unit();
+        assert_eq!(told, read_unit(&table, &unit, &mut Vec::new()));
         match told {
             Ok(Unit::Slice(slice)) => {
                 let whole = raw::whole(&kept.header(), &kept);
