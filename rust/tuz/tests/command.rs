@@ -341,7 +341,7 @@ fn a_file_that_may_not_be_read_is_named() {
     let (program, clip) = (folder.join("tuz"), folder.join("locked.264"));
     fs::copy(env!("CARGO_BIN_EXE_tuz"), &program).unwrap();
     fs::write(&clip, CLIP).unwrap();
-    fs::set_permissions(&clip, Permissions::from_mode(0)).unwrap();
+    fs::set_permissions(&clip, Permissions::from_mode(0o0)).unwrap();
     let mut command = Command::new(&program);
     if fs::metadata(&folder).unwrap().uid() == 0 {
         command.uid(65534).gid(65534);

@@ -4,6 +4,8 @@ use std::fmt;
 
 /// A refusal: document 01's number, and its value.
 #[derive(Clone, Copy, Debug, PartialEq, Eq)]
+#[cfg_attr(feature = "serde", derive(serde::Serialize))]
+#[non_exhaustive]
 pub struct Refusal {
     /// Document 01's number, 1 to 27.
     pub number: u32,

@@ -5,6 +5,8 @@ use crate::{NalHeader, NalHeaderExtension, PrefixNalUnit, Refusal, SliceHeader, 
 
 /// What a unit holds.
 #[derive(Clone, Debug, PartialEq, Eq)]
+#[cfg_attr(feature = "serde", derive(serde::Serialize))]
+#[non_exhaustive]
 pub enum Unit {
     /// A slice: types 1, 5, 20 and 21.
     Slice(Box<Slice>),
@@ -16,6 +18,8 @@ pub enum Unit {
 
 /// A slice's headers.
 #[derive(Clone, Debug, PartialEq, Eq)]
+#[cfg_attr(feature = "serde", derive(serde::Serialize))]
+#[non_exhaustive]
 pub struct Slice {
     /// The unit's first byte.
     pub nal_header: NalHeader,
@@ -25,6 +29,33 @@ pub struct Slice {
     pub header: SliceHeader,
     /// The slice header's length in bits, in the unescaped body.
     pub bits: usize,
+}
+
+impl Slice {
+    /// The final QP (SliceQPY): 26 + `pic_init_qp_minus26` + `slice_qp_delta`; nothing where the picture set is not in the table.
+    ///
+    /// ```
+    /// use tuzmarghil::{read_unit, Table, Unit};
+    ///
+    /// let table = Table::sample();
+    /// if let Unit::Slice(slice) = read_unit(&table, &[0x65, 0x88, 0x84, 0xA0], &mut Vec::new())? {
+    ///     assert_eq!(slice.qp(&table), Some(26));
+    ///     assert_eq!(slice.qp(&Table::new()), None);
+    /// }
+    /// # Ok::<(), tuzmarghil::Refusal>(())
+    /// ```
+    pub fn qp(&self, table: &Table) -> Option<i64> {
+        let picture = table.picture(self.header.pic_parameter_set_id)?;
+        let delta = self.header.slice_qp_delta;
+        Some(26 + i64::from(picture.pic_init_qp_minus26) + i64::from(delta))
+    }
+
+    /// The final QS (QSY), of slices of types SP and SI.
+    pub fn qs(&self, table: &Table) -> Option<i64> {
+        let picture = table.picture(self.header.pic_parameter_set_id)?;
+        let delta = self.header.slice_qs_delta?;
+        Some(26 + i64::from(picture.pic_init_qs_minus26) + i64::from(delta))
+    }
 }
 
 /// Reads a unit, from its first byte on and escaped as it stands in the recording, by the sets of a table.

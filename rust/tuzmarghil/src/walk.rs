@@ -5,6 +5,8 @@ use crate::{Reading, Refusal, Table, Unit, LIMIT};
 
 /// A unit of a recording.
 #[derive(Clone, Debug, PartialEq, Eq)]
+#[cfg_attr(feature = "serde", derive(serde::Serialize))]
+#[non_exhaustive]
 pub struct Report {
     /// Where the unit begins, after its start code.
     pub place: usize,
