@@ -73,5 +73,9 @@ pub use write::write_header;
 #[doc = include_str!("../README.md")]
 struct Readme;
 
+#[cfg(doctest)]
+#[doc = include_str!("../../../docs/MIGRATION.md")]
+struct Migration;
+
 /// The greatest length of a unit or a recording that one call takes, in bytes; beyond it the answer is refusal 27.
 pub const LIMIT: usize = 268_435_456;

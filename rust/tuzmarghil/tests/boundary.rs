@@ -437,3 +437,22 @@ fn prefix_arrives() {
     ];
     assert_eq!(body.dec_ref_base_pic_marking.unwrap().operations, want);
 }
+
+/// The final QP and QS of an edited header, or by another set, wrap nowhere.
+#[test]
+fn sums_do_not_wrap() {
+    let table = Table::sample();
+    let mut slice = match read_unit(&table, &[0x65, 0x88, 0x84, 0xA0], &mut Vec::new()) {
+        Ok(Unit::Slice(slice)) => slice,
+        other => panic!("{other:?}"),
+    };
+    assert_eq!((slice.qp(&table), slice.qs(&table)), (Some(26), None));
+    for delta in [i32::MIN, i32::MAX] {
+        slice.header.slice_qp_delta = delta;
+        slice.header.slice_qs_delta = Some(delta);
+        let sum = Some(26 + i64::from(delta));
+        assert_eq!((slice.qp(&table), slice.qs(&table)), (sum, sum));
+    }
+    slice.header.pic_parameter_set_id = 1;
+    assert_eq!((slice.qp(&table), slice.qs(&table)), (None, None));
+}
