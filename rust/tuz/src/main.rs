@@ -6,6 +6,7 @@ mod container;
 mod explain;
 mod form;
 mod input;
+mod manual;
 mod output;
 mod plot;
 mod shown;
@@ -16,7 +17,8 @@ mod units;
 mod words;
 
 use anyhow::{Context, Result};
-use clap::{Parser, Subcommand};
+use clap::{CommandFactory, FromArgMatches, Parser, Subcommand};
+use clap_complete::Shell;
 use form::Format;
 use input::Clip;
 use output::{Input, Output, Stdout};
@@ -30,7 +32,6 @@ use units::{Asked, Kind};
 #[command(
     name = "tuz",
     bin_name = "tuz",
-    version,
     after_help = "\
 Examples:
   tuz list night.264 --table camera.txt          each unit with its place, length, type, frame and QP
@@ -108,8 +109,16 @@ Example:
     },
     /// What a refusal's number means; without a number, all of them
     Explain {
+        /// The number, 1 to 27
         #[arg(value_name = "N")]
         number: Option<u32>,
+    },
+    /// The manual page, as roff (`tuz manual | man -l -`)
+    Manual,
+    /// What a shell needs to complete the command's words
+    Completions {
+        /// The shell
+        shell: Shell,
     },
 }
 
@@ -168,6 +177,14 @@ fn run(args: &Args, out: &mut Stdout) -> Result<u8> {
             out.write(explain::told(*number)?.as_bytes())?;
             Ok(0)
         }
+        What::Manual => {
+            out.write(manual::page(&mut command())?.as_bytes())?;
+            Ok(0)
+        }
+        What::Completions { shell } => {
+            out.write(&manual::completions(*shell, &mut command()))?;
+            Ok(0)
+        }
     }
 }
 
@@ -182,9 +199,19 @@ fn cases_of(file: &Path, rewrite: bool, out: &mut Stdout) -> Result<()> {
     cases::run(&mut lines, rewrite, out).with_context(name)
 }
 
+/// The command's definition, with its version: that of the program, the kit that proved the library, and the library's layout.
+fn command() -> clap::Command {
+    let (program, kit) = (env!("CARGO_PKG_VERSION"), env!("TUZ_KIT"));
+    let version = format!("{program} ({kit}, layout {})", tuzmarghil::LAYOUT);
+    // clap keeps it to the end
+    Args::command().version(&*Box::leak(version.into_boxed_str()))
+}
+
 /// The command's words, or what clap says of them. A name among them may hold anything.
 fn args() -> Result<Args, ExitCode> {
-    Args::try_parse().map_err(|e| {
+    let words = command().try_get_matches();
+    let args = words.and_then(|w| Args::from_arg_matches(&w));
+    args.map_err(|e| {
         if !e.use_stderr() {
             e.exit();
         }
