@@ -1,7 +1,7 @@
 # Debian packages: which ones, and how they are installed. Sourced by tuz, tests/rust and tools/setup.
 
 # The crates of rust/, and a compiler where there is none.
-rust_packages="librust-anyhow-dev librust-clap-dev librust-console-dev librust-csv-dev librust-indicatif-dev librust-plotters-dev librust-serde-json-dev"
+rust_packages="librust-anyhow-dev librust-clap-complete-dev librust-clap-dev librust-console-dev librust-csv-dev librust-indicatif-dev librust-libc-dev librust-serde-derive-dev librust-serde-json-dev"
 cargo --version >/dev/null 2>&1 || rust_packages="$rust_packages cargo rustc"
 command -v cc >/dev/null 2>&1 || rust_packages="$rust_packages gcc libc6-dev"
 # The libraries of the oracle, the encoder that made the clips, and ffmpeg, for longer clips to tear.

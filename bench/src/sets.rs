@@ -45,20 +45,20 @@ fn words(set: &Picture) -> [u32; 8] {
 
 /// The set that is put at an id: every field another.
 fn picture(id: u32) -> Picture {
-    Picture {
-        seq_parameter_set_id: id % 32,
-        entropy_coding_mode_flag: id % 2 == 1,
-        bottom_field_pic_order_in_frame_present_flag: id % 3 == 1,
-        num_ref_idx_l0_default_active_minus1: id % 31,
-        num_ref_idx_l1_default_active_minus1: id % 29,
-        weighted_pred_flag: id % 5 == 1,
-        weighted_bipred_idc: id % 3,
-        pic_init_qp_minus26: (id % 88) as i32 - 62,
-        pic_init_qs_minus26: (id % 52) as i32 - 26,
-        deblocking_filter_control_present_flag: id % 7 == 1,
-        redundant_pic_cnt_present_flag: id % 11 == 1,
-        slice_group_change_rate: id * 65_536,
-    }
+    let mut set = Picture::default();
+    set.seq_parameter_set_id = id % 32;
+    set.entropy_coding_mode_flag = id % 2 == 1;
+    set.bottom_field_pic_order_in_frame_present_flag = id % 3 == 1;
+    set.num_ref_idx_l0_default_active_minus1 = id % 31;
+    set.num_ref_idx_l1_default_active_minus1 = id % 29;
+    set.weighted_pred_flag = id % 5 == 1;
+    set.weighted_bipred_idc = id % 3;
+    set.pic_init_qp_minus26 = (id % 88) as i32 - 62;
+    set.pic_init_qs_minus26 = (id % 52) as i32 - 26;
+    set.deblocking_filter_control_present_flag = id % 7 == 1;
+    set.redundant_pic_cnt_present_flag = id % 11 == 1;
+    set.slice_group_change_rate = id * 65_536;
+    set
 }
 
 /// Fills a table, holds each look-up to what was put, and gives the nanoseconds that a look-up takes, best of several rounds.

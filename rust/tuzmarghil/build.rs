@@ -26,7 +26,11 @@ const LAYOUT: &str = "crates/short/src/fields.rt";
 fn main() {
     let here = PathBuf::from(env::var_os("CARGO_MANIFEST_DIR").unwrap());
     let out = PathBuf::from(env::var_os("OUT_DIR").unwrap());
-    let root = here.join("../..");
+    // the repository, or a package, which holds the same sources
+    let root = [here.join("../.."), here]
+        .into_iter()
+        .find(|root| root.join("crates.txt").is_file())
+        .expect("crates.txt and crates/ stand in the repository's root, or beside build.rs in a package");
     let text: String = RECORDS
         .iter()
         .map(|file| records(&root.join("crates").join(file)))
@@ -55,7 +59,7 @@ fn archive(root: &Path, name: &str) -> PathBuf {
         .expect("bench/native-archive runs");
     assert!(
         done.status.success(),
-        "bench/native-archive {EXPORTS} failed (it needs the Rattle kit's `rt` on the PATH):\n{}{}",
+        "bench/native-archive {EXPORTS} failed. It needs the Rattle kit's `rt` on the PATH; with TUZ_ARCHIVE=FILE a lib{EXPORTS}.a that is there already is taken:\n{}{}",
         String::from_utf8_lossy(&done.stdout),
         String::from_utf8_lossy(&done.stderr)
     );

@@ -2,7 +2,10 @@
 
 use tuzmarghil::raw::{HeaderShort, List, MarkedFlag, MarkedNumber, MarkedSigned, PrefixShort};
 use tuzmarghil::raw::{ReadOut, Weight, Weights, Words};
-use tuzmarghil::NalHeaderExtension;
+use tuzmarghil::{NalHeaderExtension, Refusal, Table};
+
+/// The names of slice types, modulo 5.
+pub const FAMILIES: [&str; 5] = ["P", "B", "I", "SP", "SI"];
 
 /// A field's content.
 #[derive(Clone, Copy)]
@@ -10,6 +13,8 @@ pub enum Value<'a> {
     Number(i64),
     Flag(bool),
     Word(&'static str),
+    /// in words
+    Why(Refusal),
     Pair([i32; 2]),
     /// codes, and how many operands each has
     List(List<'a>, fn(u32) -> usize),
@@ -23,13 +28,24 @@ pub trait Form {
     fn kind(&mut self, kind: &'static str);
     /// A field that goes with it.
     fn field(&mut self, name: &'static str, value: Value<'_>);
+    /// A field that `tuz cases` does not tell.
+    fn more(&mut self, name: &'static str, value: Value<'_>) {
+        self.field(name, value);
+    }
+    /// Why the unit is refused.
+    fn refusal(&mut self, why: Refusal) {
+        self.field("refusal", Value::Number(why.number.into()));
+        self.field("value", Value::Number(why.value));
+        self.field("why", Value::Why(why));
+    }
 }
 
 /// Every name that a field can have, in reading order.
-pub const NAMES: [&str; 60] = [
+pub const NAMES: [&str; 63] = [
     "type",
     "refusal",
     "value",
+    "why",
     "nal_ref_idc",
     "nal_unit_type",
     "ext",
@@ -51,6 +67,7 @@ pub const NAMES: [&str; 60] = [
     "additional_prefix_nal_unit_extension_flag",
     "first_mb_in_slice",
     "slice_type",
+    "family",
     "pic_parameter_set_id",
     "seq_parameter_set_id",
     "colour_plane_id",
@@ -87,32 +104,105 @@ pub const NAMES: [&str; 60] = [
     "ref_pic_list_modification_flag_l0",
     "ref_pic_list_modification_flag_l1",
     "bits",
+    "qp",
 ];
 
-/// Writes the answer for these bytes, with the words that go with it.
-pub fn write(unit: &[u8], out: &ReadOut, words: &Words, form: &mut impl Form) {
+/// Those of `tuz list`.
+pub const LIST: [&str; 9] = [
+    "type",
+    "refusal",
+    "value",
+    "why",
+    "ext",
+    "slice_type",
+    "family",
+    "frame_num",
+    "qp",
+];
+
+/// Those of `tuz qp`.
+pub const QP: [&str; 7] = [
+    "refusal",
+    "value",
+    "why",
+    "slice_type",
+    "family",
+    "frame_num",
+    "qp",
+];
+
+/// What `tuz list` and `tuz qp` tell of a slice.
+#[derive(Clone, Copy, Default)]
+pub struct Slice {
+    pub slice_type: u32,
+    pub frame_num: u32,
+    /// the final one
+    pub qp: i64,
+}
+
+impl Slice {
+    /// The slice that was read by this table.
+    #[inline]
+    pub fn of(table: &Table, words: &Words) -> Slice {
+        let header = words.header();
+        let picture = table.picture(header.pic_parameter_set_id);
+        let initial = picture.map_or(0, |set| set.pic_init_qp_minus26);
+        Slice {
+            slice_type: header.slice_type,
+            frame_num: header.frame.frame_num,
+            qp: 26 + i64::from(initial) + i64::from(header.quantiser.slice_qp_delta),
+        }
+    }
+
+    pub fn family(&self) -> &'static str {
+        FAMILIES[self.slice_type as usize % 5]
+    }
+}
+
+/// Writes the answer for these bytes, with the words that go with it, and a slice's final QP where it is asked for.
+pub fn write(unit: &[u8], out: &ReadOut, words: &Words, qp: Option<i64>, form: &mut impl Form) {
     let mut to = Fields(form);
     match out.answer {
-        0 => {
-            to.0.kind("other");
-            to.number("type", out.number);
-        }
+        0 => to.other(out),
         1 => {
             to.0.kind("slice");
             to.first_byte(unit, true);
             to.slice(&words.header(), words);
             to.number("bits", out.bits as i64);
+            if let Some(qp) = qp {
+                to.0.more("qp", Value::Number(qp));
+            }
         }
         2 => {
             to.0.kind("prefix");
             to.first_byte(unit, false);
             to.prefix(&out.prefix, words);
         }
-        _ => {
-            to.0.kind("refused");
-            to.number("refusal", out.number);
-            to.number("value", out.value);
+        _ => to.refused(out),
+    }
+}
+
+/// The same, without what only `tuz headers` tells.
+pub fn brief(unit: &[u8], out: &ReadOut, slice: &Slice, form: &mut impl Form) {
+    let mut to = Fields(form);
+    match out.answer {
+        0 => to.other(out),
+        1 => {
+            to.0.kind("slice");
+            to.number("slice_type", slice.slice_type);
+            to.put("family", Value::Word(slice.family()));
+            to.number("frame_num", slice.frame_num);
+            to.number("qp", slice.qp);
         }
+        2 => {
+            to.0.kind("prefix");
+            let svc = matches!(
+                NalHeaderExtension::of_unit(unit),
+                Some(NalHeaderExtension::Svc(_))
+            );
+            to.put("ext", Value::Word(if svc { "svc" } else { "mvc" }));
+        }
+        _ => to.refused(out),
     }
 }
 
@@ -121,6 +211,16 @@ struct Fields<'f, F>(&'f mut F);
 impl<F: Form> Fields<'_, F> {
     fn put(&mut self, name: &'static str, value: Value<'_>) {
         self.0.field(name, value);
+    }
+
+    fn other(&mut self, out: &ReadOut) {
+        self.0.kind("other");
+        self.number("type", out.number);
+    }
+
+    fn refused(&mut self, out: &ReadOut) {
+        self.0.kind("refused");
+        self.0.refusal(Refusal::new(out.number, out.value));
     }
 
     fn number(&mut self, name: &'static str, n: impl Into<i64>) {
@@ -202,6 +302,8 @@ impl<F: Form> Fields<'_, F> {
     fn slice(&mut self, h: &HeaderShort, words: &Words) {
         self.number("first_mb_in_slice", h.first_mb_in_slice);
         self.number("slice_type", h.slice_type);
+        let family = FAMILIES[h.slice_type as usize % 5];
+        self.0.more("family", Value::Word(family));
         self.number("pic_parameter_set_id", h.pic_parameter_set_id);
         self.number("seq_parameter_set_id", h.seq_parameter_set_id);
         self.number_if("colour_plane_id", h.frame.colour_plane_id);
@@ -293,25 +395,6 @@ impl<F: Form> Fields<'_, F> {
     }
 }
 
-/// Answer lines: words `name=content`.
-pub struct Text<'a>(pub &'a mut Vec<u8>);
-
-impl Form for Text<'_> {
-    fn kind(&mut self, kind: &'static str) {
-        self.0.extend_from_slice(kind.as_bytes());
-    }
-
-    fn field(&mut self, name: &'static str, value: Value<'_>) {
-        self.0.push(b' ');
-        // a refusal's number stands alone
-        if name != "refusal" {
-            self.0.extend_from_slice(name.as_bytes());
-            self.0.push(b'=');
-        }
-        value.text(self.0);
-    }
-}
-
 impl Value<'_> {
     /// As answer lines have it.
     pub fn text(self, to: &mut Vec<u8>) {
@@ -319,6 +402,7 @@ impl Value<'_> {
             Value::Number(n) => number(to, n),
             Value::Flag(b) => to.push(b'0' + u8::from(b)),
             Value::Word(w) => to.extend_from_slice(w.as_bytes()),
+            Value::Why(why) => to.extend_from_slice(why.reason().as_bytes()),
             Value::Pair(pair) => colons(to, &pair),
             Value::List(list, operands) => {
                 let mut before = Commas::new();
@@ -355,11 +439,8 @@ impl Value<'_> {
         match self {
             Value::Number(n) => number(to, n),
             Value::Flag(b) => to.extend_from_slice(if b { b"true" } else { b"false" }),
-            Value::Word(w) => {
-                to.push(b'"');
-                to.extend_from_slice(w.as_bytes());
-                to.push(b'"');
-            }
+            Value::Word(w) => quoted(to, w),
+            Value::Why(why) => quoted(to, &why.reason()),
             Value::Pair(pair) => array(to, &pair),
             Value::List(list, operands) => {
                 to.push(b'[');
@@ -448,6 +529,13 @@ fn array_or_null<const N: usize>(to: &mut Vec<u8>, numbers: Option<[i32; N]>) {
     }
 }
 
+/// A text that needs no escapes.
+fn quoted(to: &mut Vec<u8>, text: &str) {
+    to.push(b'"');
+    to.extend_from_slice(text.as_bytes());
+    to.push(b'"');
+}
+
 /// A number in digits: most have one, and going through `fmt` for each takes longer than reading the unit.
 pub fn number(to: &mut Vec<u8>, n: i64) {
     if (0..10).contains(&n) {
@@ -522,8 +610,14 @@ mod tests {
             (3, [0, 0, 0, 0]),
         ] {
             out.answer = answer;
-            write(&unit, &out, &words, &mut order);
+            write(&unit, &out, &words, Some(0), &mut order);
+            brief(&unit, &out, &Slice::default(), &mut order);
         }
         assert!(NAMES.iter().all(|n| order.1.contains(n)));
+        for few in [&LIST[..], &QP] {
+            let mut places = few.iter().map(|n| NAMES.iter().position(|m| m == n));
+            let mut last = None;
+            assert!(places.all(|at| std::mem::replace(&mut last, at) < at));
+        }
     }
 }

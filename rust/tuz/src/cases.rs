@@ -1,30 +1,42 @@
 //! `tuz cases`: one answer line for each case line.
 
-use crate::answer::{self, Text};
-use crate::words;
+use crate::form::Text;
+use crate::output::Stdout;
+use crate::{answer, stop, words};
 use anyhow::{ensure, Context, Result};
-use std::io::{BufRead, Write};
-use tuzmarghil::raw::{ReadOut, Words};
-use tuzmarghil::{read_unit_raw, write_header, Table, Unit};
+use std::io::{BufRead, Read};
+use tuzmarghil::raw::Words;
+use tuzmarghil::{write_header, Reading, Table, Unit, UnitReader};
 
-pub fn run(cases: &mut impl BufRead, rewrite: bool, to: &mut impl Write) -> Result<()> {
+/// The greatest length of a case: a unit of some 8 MiB, in hex.
+const LINE: u64 = 16 << 20;
+
+pub fn run(cases: &mut impl BufRead, rewrite: bool, to: &mut Stdout) -> Result<()> {
     let mut table = Table::new();
     // the words that the table was made of
     let mut made = String::new();
-    let (mut line, mut unit, mut scratch) = (String::new(), Vec::new(), Vec::new());
-    let mut said = Vec::new();
-    let (mut read, mut kept) = (ReadOut::default(), Words::default());
+    let (mut line, mut unit) = (Vec::new(), Vec::new());
+    let (mut said, mut reader) = (Vec::new(), UnitReader::default());
     for number in 1u64.. {
+        stop::check()?;
         line.clear();
-        if cases.read_line(&mut line).context("reading")? == 0 {
+        let mut few = cases.take(LINE + 1);
+        if few.read_until(b'\n', &mut line).context("reading")? == 0 {
             break;
         }
-        let case = line.trim_end_matches(['\n', '\r'].as_slice());
+        let place = || format!("line {number}");
+        ensure!(
+            line.len() as u64 <= LINE,
+            "line {number} is over {LINE} bytes"
+        );
+        let text = std::str::from_utf8(&line)
+            .context("is no text")
+            .with_context(place)?;
+        let case = text.trim_end_matches(['\n', '\r'].as_slice());
         if case.is_empty() || case.starts_with('#') {
             continue;
         }
         let (sets, last) = case.rsplit_once(' ').unwrap_or(("", case));
-        let place = || format!("line {number}");
         if sets != made {
             let words = sets.split(' ').filter(|w| !w.is_empty());
             table = words::table(words).with_context(place)?;
@@ -32,27 +44,31 @@ pub fn run(cases: &mut impl BufRead, rewrite: bool, to: &mut impl Write) -> Resu
             made.push_str(sets);
         }
         words::unit(last, &mut unit).with_context(place)?;
-        if scratch.len() < unit.len() {
-            scratch.resize(unit.len(), 0);
-        }
-        read_unit_raw(&table, &unit, &mut scratch, &mut kept, &mut read);
+        let reading = reader.read(&table, &unit);
+        let (read, words) = reading.raw();
         said.clear();
-        answer::write(&unit, &read, &kept, &mut Text(&mut said));
+        let mut form = Text {
+            to: &mut said,
+            more: false,
+            why: false,
+        };
+        answer::write(&unit, read, words, None, &mut form);
         said.push(b'\n');
-        to.write_all(&said)?;
+        to.write(&said)?;
         if rewrite && read.answer == 1 {
-            rewritten(&table, &unit, &scratch, &read, &kept).with_context(place)?;
+            rewritten(&table, &reading).with_context(place)?;
         }
     }
     Ok(())
 }
 
 /// Gives the header that was read Rust's types, takes it back to words, writes those, and compares: the words, the answer, the bits, and what is left as it was.
-fn rewritten(table: &Table, unit: &[u8], body: &[u8], read: &ReadOut, words: &Words) -> Result<()> {
-    let slice = match Unit::from_raw(unit, read, words) {
+fn rewritten(table: &Table, reading: &Reading<'_>) -> Result<()> {
+    let slice = match reading.unit() {
         Ok(Unit::Slice(slice)) => slice,
         _ => return Ok(()),
     };
+    let ((read, words), body) = (reading.raw(), reading.scratch());
     ensure!(
         same_header(&slice.header.to_words(table), words),
         "other words come back"

@@ -1,6 +1,7 @@
 //! Recordings and tables from files or standard input, with messages that name the file and the cause.
 
-use crate::words;
+use crate::output::Input;
+use crate::{container, shown, stop, words};
 use anyhow::{bail, ensure, Context, Result};
 use clap::Args;
 use indicatif::{ProgressBar, ProgressStyle};
@@ -12,11 +13,14 @@ use tuzmarghil::{Stream, StreamReport, Table, LIMIT};
 /// The sample sets of document 01, both with id 0.
 const SAMPLE: &str = "sps:0:1:0:0:4:2:0:0:1:99 pps:0:0:0:0:0:0:0:0:0:0:0:0:0";
 
-/// A recording is looked at this far before it is read.
-const LOOK: u64 = 1 << 20;
+/// Where no start code has come by here, it is told.
+const NO_START_CODE: u64 = 1 << 20;
 
 /// Progress is shown for recordings from this length on, and told this often.
 const LONG: u64 = 32 << 20;
+
+/// The greatest length of a table file: 288 sets have less than 20 KB.
+const TABLE: u64 = 1 << 20;
 
 /// A recording, and the sets that its slices name.
 #[derive(Args)]
@@ -29,14 +33,36 @@ pub struct Clip {
     /// The sample sets: 4:2:0, 8 bit, frames only, 99 map units
     #[arg(long)]
     sample: bool,
-    /// Read on where the first MiB holds no start code
+    /// Read it as a byte stream whatever it looks like
     #[arg(long)]
     force: bool,
 }
 
+/// What is done with each unit.
+pub trait Each {
+    fn unit(&mut self, report: &StreamReport<'_>) -> Result<()>;
+    /// More must be read: whoever waits gets the lines that are there.
+    fn pause(&mut self) -> Result<()>;
+    /// Whether anything is left to be done.
+    fn wanted(&self) -> bool;
+}
+
 impl Clip {
     pub fn name(&self) -> String {
-        name(&self.clip)
+        shown::name(&self.clip, "standard input")
+    }
+
+    /// The files that are read.
+    pub fn inputs(&self) -> Vec<Input<'_>> {
+        let mut inputs = vec![Input {
+            what: "the recording",
+            path: &self.clip,
+        }];
+        inputs.extend(self.table.as_deref().map(|path| Input {
+            what: "the table",
+            path,
+        }));
+        inputs
     }
 
     /// The table of `--table` or `--sample`; empty without them.
@@ -44,127 +70,195 @@ impl Clip {
         if self.sample {
             return words::table(SAMPLE.split(' '));
         }
-        let path = match &self.table {
-            Some(path) => path,
-            None => return Ok(Table::new()),
-        };
-        let mut text = String::new();
-        let read = open(path)?.read_to_string(&mut text);
-        if matches!(&read, Err(e) if e.kind() == ErrorKind::InvalidData) {
-            bail!(
-                "{}: is no table, which is a text of words such as sps:0:1:0:0:4:2:0:0:1:99",
-                name(path)
-            );
+        match &self.table {
+            None => Ok(Table::new()),
+            Some(path) => table_of(path),
         }
-        read.with_context(|| name(path))?;
-        let mut table = Table::new();
-        let lines = text.lines().map(|l| l.split('#').next().unwrap_or(""));
-        for word in lines.flat_map(str::split_whitespace) {
-            let told = || format!("{}: {word}", name(path));
-            words::put(&mut table, word)
-                .with_context(told)?
-                .with_context(told)?;
-        }
-        Ok(table)
     }
 
-    /// Hands each unit of the recording to `each`, with a bar on a terminal where the recording is long and the lines go elsewhere.
-    pub fn units(
-        &self,
-        table: &Table,
-        mut each: impl FnMut(&StreamReport<'_>) -> Result<()>,
-    ) -> Result<()> {
-        let source = self.open()?;
-        let length = fs::metadata(&self.clip).map_or(0, |m| m.len());
-        let bar = match length {
-            0..=LONG => ProgressBar::hidden(),
-            // the lines themselves show it
-            _ if console::user_attended() => ProgressBar::hidden(),
-            _ => {
-                let form = "{bar:40} {bytes}/{total_bytes} {bytes_per_sec} {eta}";
-                ProgressBar::new(length).with_style(ProgressStyle::with_template(form)?)
-            }
-        };
-        let mut stream = Stream::new(source);
-        let mut told = 0;
-        while let Some(report) = stream.next(table).with_context(|| self.name())? {
-            if report.place > told + LONG {
-                told = report.place;
-                bar.set_position(told);
-            }
-            each(&report)?;
-        }
-        bar.finish_and_clear();
-        Ok(())
+    /// Whether any sets are given.
+    pub fn has_table(&self) -> bool {
+        self.sample || self.table.is_some()
     }
 
-    /// The recording from its start on, once its beginning looks like one.
-    fn open(&self) -> Result<Box<dyn Read>> {
+    /// The recording, once its beginning looks like one.
+    pub fn open(&self) -> Result<Recording> {
         let mut source = open(&self.clip)?;
         let mut front = Vec::new();
-        let looked = source.by_ref().take(LOOK).read_to_end(&mut front);
-        looked.with_context(|| self.name())?;
+        let whole = look(&mut source, &mut front).with_context(|| self.name())?;
         ensure!(!front.is_empty(), "{}: is empty", self.name());
-        if !self.force && !front.windows(3).any(|w| w == [0, 0, 1]) {
-            bail!("{}: {}", self.name(), no_start_code(&front));
+        let told = container::told(&front, whole);
+        if let (Some(told), false) = (told, self.force) {
+            bail!("{}: {told}", self.name());
         }
-        Ok(Box::new(Cursor::new(front).chain(source)))
+        Ok(Recording {
+            name: self.name(),
+            length: fs::metadata(&self.clip).map_or(0, |m| m.len()),
+            source: Box::new(Cursor::new(front).chain(source)),
+            force: self.force,
+            passed: 0,
+            seen: false,
+            last: [255; 2],
+        })
+    }
+}
+
+/// Reads until a beginning can be told; whether that is all.
+fn look(source: &mut dyn Read, front: &mut Vec<u8>) -> io::Result<bool> {
+    let mut piece = [0; container::LOOK];
+    while front.len() < container::needed(front) {
+        stop::check()?;
+        match source.read(&mut piece) {
+            Ok(0) => return Ok(true),
+            Ok(n) => front.extend_from_slice(&piece[..n]),
+            Err(e) if e.kind() == ErrorKind::Interrupted => {}
+            Err(e) => return Err(e),
+        }
+    }
+    Ok(false)
+}
+
+/// A recording that is open. It looks for a start code as it is read: without one, all of it is in no unit.
+pub struct Recording {
+    name: String,
+    length: u64,
+    source: Box<dyn Read>,
+    force: bool,
+    passed: u64,
+    seen: bool,
+    last: [u8; 2],
+}
+
+impl Recording {
+    /// Hands each unit to `each`, with a bar on a terminal where the recording is long and the lines go elsewhere. Gives its length in bytes.
+    pub fn units(self, table: &Table, quiet: bool, each: &mut impl Each) -> Result<u64> {
+        let bar = match self.length {
+            0..=LONG => ProgressBar::hidden(),
+            // the lines themselves show it
+            _ if quiet || console::user_attended() => ProgressBar::hidden(),
+            _ => {
+                let form = "{bar:40} {bytes}/{total_bytes} {bytes_per_sec} {eta}";
+                ProgressBar::new(self.length).with_style(ProgressStyle::with_template(form)?)
+            }
+        };
+        let (name, mut told) = (self.name.clone(), 0);
+        let mut stream = Stream::new(self);
+        while each.wanted() {
+            stop::check()?;
+            if let Some(report) = stream.next_at_hand(table) {
+                each.unit(&report)?;
+                continue;
+            }
+            each.pause()?;
+            if !stream.read_more().with_context(|| name.clone())? {
+                break;
+            }
+            if stream.position() > told + LONG {
+                told = stream.position();
+                bar.set_position(told);
+            }
+        }
+        bar.finish_and_clear();
+        Ok(stream.position())
     }
 
     /// The whole recording.
-    pub fn bytes(&self) -> Result<Vec<u8>> {
-        let mut all = Vec::new();
-        let read = self.open()?.read_to_end(&mut all);
-        read.with_context(|| self.name())?;
+    pub fn bytes(self) -> Result<Vec<u8>> {
+        let (name, mut all) = (self.name.clone(), Vec::new());
+        let read = self.take(LIMIT as u64 + 1).read_to_end(&mut all);
+        read.with_context(|| name.clone())?;
+        ensure!(all.len() <= LIMIT, "{name}: is over {LIMIT} bytes");
         Ok(all)
     }
+
+    /// Looks for a start code in these bytes with the two before them.
+    fn look(&mut self, bytes: &[u8]) {
+        let before = self.passed - bytes.len() as u64;
+        let around = [&self.last, &bytes[..bytes.len().min(2)]].concat();
+        let first = |s: &[u8]| s.windows(3).position(|w| w == [0, 0, 1]);
+        let found = first(&around).map(|_| 0).or_else(|| first(bytes));
+        self.seen = found.is_some();
+        let passed = before + found.unwrap_or(bytes.len()) as u64;
+        if !self.force && before < NO_START_CODE && NO_START_CODE <= passed {
+            let name = &self.name;
+            eprintln!("tuz: {name}: no start code (00 00 01) in its first {NO_START_CODE} bytes; reading on");
+        }
+        let all = [&self.last, &bytes[bytes.len().saturating_sub(2)..]].concat();
+        self.last.copy_from_slice(&all[all.len() - 2..]);
+    }
 }
 
-/// Why a beginning without a start code is no recording, with what it may be.
-fn no_start_code(front: &[u8]) -> String {
-    let length = |at: usize| {
-        let four = front.get(at..at + 4)?.try_into().ok()?;
-        Some(u32::from_be_bytes(four) as usize)
+impl Read for Recording {
+    fn read(&mut self, to: &mut [u8]) -> io::Result<usize> {
+        stop::check()?;
+        let n = match self.source.read(to) {
+            Err(e) => {
+                stop::check()?;
+                return Err(e);
+            }
+            Ok(n) => n,
+        };
+        self.passed += n as u64;
+        if !self.seen && n > 0 {
+            self.look(&to[..n]);
+        }
+        if n == 0 && !to.is_empty() && !self.seen && !self.force {
+            let told = format!("no start code (00 00 01) in its {} bytes, so this is no H.264 byte stream; --force reads it all the same", self.passed);
+            return Err(io::Error::new(ErrorKind::InvalidData, told));
+        }
+        Ok(n)
+    }
+}
+
+/// The sets of a table file. What is likely not meant is told.
+fn table_of(path: &Path) -> Result<Table> {
+    let name = shown::name(path, "standard input");
+    let mut bytes = Vec::new();
+    let read = open(path)?.take(TABLE + 1).read_to_end(&mut bytes);
+    read.with_context(|| name.clone())?;
+    let no_table = || {
+        format!("{name}: is no table, which is a text of words such as sps:0:1:0:0:4:2:0:0:1:99")
     };
-    let told = format!(
-        "no start code (00 00 01) in its first {} bytes, so this is no H.264 byte stream",
-        front.len()
+    ensure!(
+        bytes.len() as u64 <= TABLE,
+        "{}, and it is over {TABLE} bytes",
+        no_table()
     );
-    if front.get(4..8) == Some(b"ftyp") {
-        return told + ". It is an MP4 file, in which units stand behind lengths: `ffmpeg -i FILE -c copy -bsf:v h264_mp4toannexb OUT.264` takes the stream out";
+    if bytes.starts_with(&[0xFF, 0xFE]) || bytes.starts_with(&[0xFE, 0xFF]) {
+        bail!("{name}: is UTF-16 text; a table is UTF-8, or plain ASCII");
     }
-    let framed = length(0).map_or(false, |n| {
-        (1..=LIMIT).contains(&n)
-            && (n + 4 == front.len() || length(n + 4).map_or(n + 4 > front.len(), |m| m > 0))
-    });
-    let guess = if framed {
-        ". Its first bytes look like a length: units may stand behind lengths (MP4, AVCC framing)"
-    } else {
-        ". Units may stand behind lengths (MP4, AVCC framing)"
-    };
-    told + guess + ", which this command does not read; --force reads on all the same"
-}
-
-fn name(path: &Path) -> String {
-    match path.to_str() {
-        Some("-") => "standard input".to_owned(),
-        _ => path.display().to_string(),
+    let text = String::from_utf8(bytes).map_err(|_| anyhow::anyhow!(no_table()))?;
+    let mut text = text.as_str();
+    if let Some(rest) = text.strip_prefix('\u{FEFF}') {
+        eprintln!("tuz: {name}: begins with a byte order mark, which is passed over");
+        text = rest;
     }
+    let lines = text.lines().map(|l| l.split('#').next().unwrap_or(""));
+    let mut filled = words::Filled::default();
+    for word in lines.flat_map(str::split_whitespace) {
+        let told = || format!("{name}: {}", shown::word(word));
+        filled.put(word).with_context(told)?.with_context(told)?;
+    }
+    for told in filled.doubts() {
+        eprintln!("tuz: {name}: {told}");
+    }
+    Ok(filled.table)
 }
 
 /// A file or standard input, to be read.
-pub fn open(path: &Path) -> Result<Box<dyn Read>> {
+fn open(path: &Path) -> Result<Box<dyn Read>> {
     if path.as_os_str() == "-" {
         return Ok(Box::new(io::stdin()));
     }
+    let name = shown::name(path, "-");
     let told = |e: io::Error| match e.kind() {
-        ErrorKind::NotFound => anyhow::anyhow!("{}: there is no such file", name(path)),
-        ErrorKind::PermissionDenied => anyhow::anyhow!("{}: may not be read", name(path)),
-        _ => anyhow::Error::new(e).context(name(path)),
+        ErrorKind::NotFound => anyhow::anyhow!("{name}: there is no such file"),
+        ErrorKind::PermissionDenied => anyhow::anyhow!("{name}: may not be read"),
+        _ => anyhow::Error::new(e).context(name.clone()),
     };
     let file = File::open(path).map_err(told)?;
     let kind = file.metadata().map_err(told)?;
-    ensure!(!kind.is_dir(), "{}: is a directory, not a file", name(path));
+    ensure!(!kind.is_dir(), "{name}: is a directory, not a file");
     Ok(Box::new(file))
 }
 

@@ -2,29 +2,36 @@
 
 mod answer;
 mod cases;
-mod headers;
+mod container;
+mod explain;
+mod form;
 mod input;
-mod list;
+mod manual;
+mod output;
 mod plot;
-mod qp;
+mod shown;
+mod stop;
 mod tear;
 mod totals;
+mod units;
 mod words;
 
 use anyhow::{Context, Result};
-use clap::{Parser, Subcommand};
+use clap::{CommandFactory, FromArgMatches, Parser, Subcommand};
+use clap_complete::Shell;
+use form::Format;
 use input::Clip;
-use std::io::{self, BufWriter, StdoutLock, Write};
-use std::path::PathBuf;
+use output::{Input, Output, Stdout};
+use std::path::{Path, PathBuf};
 use std::process::ExitCode;
-use totals::Totals;
+use stop::Stopped;
+use units::{Asked, Kind};
 
 /// Slice headers of H.264 recordings, read by a proved library.
 #[derive(Parser)]
 #[command(
     name = "tuz",
     bin_name = "tuz",
-    version,
     after_help = "\
 Examples:
   tuz list night.264 --table camera.txt          each unit with its place, length, type, frame and QP
@@ -51,14 +58,16 @@ enum What {
         #[command(flatten)]
         clip: Clip,
         #[command(flatten)]
+        form: Form,
+        #[command(flatten)]
         ending: Ending,
     },
     /// Every unit with every field
     Headers {
         #[command(flatten)]
         clip: Clip,
-        #[arg(long, value_enum, default_value = "text")]
-        format: headers::Format,
+        #[command(flatten)]
+        form: Form,
         #[command(flatten)]
         ending: Ending,
     },
@@ -66,10 +75,12 @@ enum What {
     Qp {
         #[command(flatten)]
         clip: Clip,
-        /// A row for each slice and each refused unit
+        #[command(flatten)]
+        form: Form,
+        /// A row for each slice and each refused unit; `-` is standard output
         #[arg(long, value_name = "FILE")]
         csv: Option<PathBuf>,
-        /// QP over the recording as SVG; refused units stand out in red
+        /// QP over the recording as SVG; refused units stand out in red; `-` is standard output
         #[arg(long, value_name = "FILE.svg")]
         plot: Option<PathBuf>,
         #[command(flatten)]
@@ -96,94 +107,147 @@ Example:
         #[arg(long)]
         rewrite: bool,
     },
+    /// What a refusal's number means; without a number, all of them
+    Explain {
+        /// The number, 1 to 27
+        #[arg(value_name = "N")]
+        number: Option<u32>,
+    },
+    /// The manual page, as roff (`tuz manual | man -l -`)
+    Manual,
+    /// What a shell needs to complete the command's words
+    Completions {
+        /// The shell
+        shell: Shell,
+    },
+}
+
+/// How units are told.
+#[derive(clap::Args)]
+struct Form {
+    /// How units are told on standard output
+    #[arg(long, value_enum, default_value = "text")]
+    format: Format,
 }
 
 /// What happens at the end.
 #[derive(clap::Args)]
-struct Ending {
+pub struct Ending {
     /// Exit status 1 where units were refused
     #[arg(long)]
     strict: bool,
-    /// No totals on standard error
+    /// No totals and no bar on standard error
     #[arg(long, short)]
     quiet: bool,
 }
 
-impl Ending {
-    fn status(&self, clip: &Clip, totals: Totals) -> u8 {
-        if !self.quiet {
-            eprintln!("{}: {totals}", clip.name());
+fn asked<'a>(kind: Kind, clip: &'a Clip, form: &Form, ending: &'a Ending) -> Asked<'a> {
+    Asked {
+        kind,
+        clip,
+        format: form.format,
+        csv: None,
+        plot: None,
+        ending,
+    }
+}
+
+fn run(args: &Args, out: &mut Stdout) -> Result<u8> {
+    match &args.what {
+        What::List { clip, form, ending } => {
+            units::run(&asked(Kind::List, clip, form, ending), out)
         }
-        u8::from(self.strict && totals.refused > 0)
-    }
-}
-
-/// Standard output, whose errors say so.
-struct Out(StdoutLock<'static>);
-
-impl Write for Out {
-    fn write(&mut self, bytes: &[u8]) -> io::Result<usize> {
-        self.0.write(bytes).map_err(Out::named)
-    }
-
-    fn flush(&mut self) -> io::Result<()> {
-        self.0.flush().map_err(Out::named)
-    }
-}
-
-impl Out {
-    fn named(e: io::Error) -> io::Error {
-        io::Error::new(e.kind(), format!("standard output: {e}"))
-    }
-}
-
-fn run(args: Args) -> Result<u8> {
-    let mut out = BufWriter::with_capacity(1 << 16, Out(io::stdout().lock()));
-    let (clip, ending, totals) = match &args.what {
-        What::List { clip, ending } => (clip, ending, list::run(clip, &mut out)?),
-        What::Headers {
-            clip,
-            format,
-            ending,
-        } => (clip, ending, headers::run(clip, *format, &mut out)?),
+        What::Headers { clip, form, ending } => {
+            units::run(&asked(Kind::Headers, clip, form, ending), out)
+        }
         What::Qp {
             clip,
+            form,
             csv,
             plot,
             ending,
         } => {
-            let totals = qp::run(clip, csv.as_deref(), plot.as_deref(), &mut out)?;
-            (clip, ending, totals)
+            let (csv, plot) = (csv.as_deref(), plot.as_deref());
+            let asked = asked(Kind::Qp, clip, form, ending);
+            units::run(&Asked { csv, plot, ..asked }, out)
         }
-        What::Tear(tear) => {
-            tear::run(tear, &mut out)?;
-            out.flush()?;
-            return Ok(0);
+        What::Tear(tear) => tear::run(tear, out).map(|()| 0),
+        What::Cases { file, rewrite } => cases_of(file, *rewrite, out).map(|()| 0),
+        What::Explain { number } => {
+            out.write(explain::told(*number)?.as_bytes())?;
+            Ok(0)
         }
-        What::Cases { file, rewrite } => {
-            let name = || file.display().to_string();
-            cases::run(&mut input::lines(file)?, *rewrite, &mut out).with_context(name)?;
-            out.flush()?;
-            return Ok(0);
+        What::Manual => {
+            out.write(manual::page(&mut command())?.as_bytes())?;
+            Ok(0)
         }
-    };
-    out.flush()?;
-    Ok(ending.status(clip, totals))
+        What::Completions { shell } => {
+            out.write(&manual::completions(*shell, &mut command()))?;
+            Ok(0)
+        }
+    }
 }
 
-/// Whoever reads our output may stop: that is no error.
-fn closed_pipe(e: &anyhow::Error) -> bool {
-    e.chain().any(|cause| {
-        let io = cause.downcast_ref::<io::Error>();
-        io.map_or(false, |e| e.kind() == io::ErrorKind::BrokenPipe)
+fn cases_of(file: &Path, rewrite: bool, out: &mut Stdout) -> Result<()> {
+    let input = Input {
+        what: "the cases",
+        path: file,
+    };
+    let mut lines = input::lines(file)?;
+    Output::open(&[input], &[])?;
+    let name = || shown::name(file, "standard input");
+    cases::run(&mut lines, rewrite, out).with_context(name)
+}
+
+/// The command's definition, with its version: that of the program, the kit that proved the library, and the library's layout.
+fn command() -> clap::Command {
+    let (program, kit) = (env!("CARGO_PKG_VERSION"), env!("TUZ_KIT"));
+    let version = format!("{program} ({kit}, layout {})", tuzmarghil::LAYOUT);
+    // clap keeps it to the end
+    Args::command().version(&*Box::leak(version.into_boxed_str()))
+}
+
+/// The command's words, or what clap says of them. A name among them may hold anything.
+fn args() -> Result<Args, ExitCode> {
+    let words = command().try_get_matches();
+    let args = words.and_then(|w| Args::from_arg_matches(&w));
+    args.map_err(|e| {
+        if !e.use_stderr() {
+            e.exit();
+        }
+        let lines = e.to_string();
+        for line in lines.lines() {
+            eprintln!("{}", shown::text(line));
+        }
+        ExitCode::from(2)
     })
 }
 
 fn main() -> ExitCode {
-    match run(Args::parse()) {
-        Ok(status) => ExitCode::from(status),
-        Err(e) if closed_pipe(&e) => ExitCode::SUCCESS,
-        Err(e) => {
+    let args = match args() {
+        Ok(args) => args,
+        Err(status) => return status,
+    };
+    stop::watch();
+    let done = Stdout::new().and_then(|mut out| {
+        let done = run(&args, &mut out);
+        // what was told before an error stays told
+        out.flush_lines().and(done).and_then(|status| {
+            out.finish()?;
+            Ok(status)
+        })
+    });
+    done.map_or_else(|e| failed(&e), ExitCode::from)
+}
+
+fn failed(e: &anyhow::Error) -> ExitCode {
+    let stopped = |cause: &(dyn std::error::Error + 'static)| {
+        let io = cause.downcast_ref::<std::io::Error>()?;
+        io.get_ref()?.downcast_ref::<Stopped>().map(|s| s.0)
+    };
+    match e.chain().find_map(stopped) {
+        Some(signal) => ExitCode::from(128 + signal as u8),
+        None => {
             eprintln!("tuz: {e:#}");
             ExitCode::from(2)
         }

@@ -1,101 +1,347 @@
-//! QP over a recording, as SVG: a colour for each slice type, and a red line over the whole height where a unit is refused.
+//! QP over a recording, as SVG: a colour for each slice type, and a red line over the whole height where a unit is refused, with the refusal's number.
 
-use crate::qp::Point;
-use crate::totals::TYPES;
-use anyhow::Result;
-use plotters::prelude::*;
-use std::collections::BTreeMap;
-use std::path::Path;
+use crate::answer::FAMILIES;
+use crate::shown;
+use std::fmt::Write;
 
-const SIZE: (u32, u32) = (1200, 420);
-/// Points that fall on one column of the picture are drawn as one bar from the least to the greatest.
-const COLUMNS: u64 = 1100;
-const COLOURS: [RGBColor; 5] = [
-    RGBColor(31, 119, 180),
-    RGBColor(44, 140, 44),
-    RGBColor(230, 120, 0),
-    RGBColor(140, 86, 75),
-    RGBColor(148, 103, 189),
-];
-const TORN: RGBColor = RGBColor(214, 0, 0);
-const GRID: RGBColor = RGBColor(226, 226, 226);
-const TEXT: (&str, i32) = ("sans-serif", 15);
+const WIDTH: f64 = 1200.0;
+const HEIGHT: f64 = 440.0;
+const LEFT: f64 = 62.0;
+const RIGHT: f64 = 1150.0;
+const TOP: f64 = 66.0;
+const BOTTOM: f64 = 372.0;
+const COLOURS: [&str; 5] = ["#1F77B4", "#2C8C2C", "#E67800", "#8C564B", "#9467BD"];
+const TORN: &str = "#D60000";
 
-/// Draws the points one after the other, counted from 1, whatever lies between them in the recording.
-pub fn draw(name: &str, points: &[Point], path: &Path) -> Result<()> {
-    let count = points.len() as u64;
-    let step = 1 + count / COLUMNS;
-    let mut bars: [BTreeMap<u64, (i32, i32)>; 5] = Default::default();
-    let mut refused = BTreeMap::new();
-    let (mut least, mut greatest) = (i32::MAX, i32::MIN);
-    for (x, point) in (0..).map(|i| i / step * step + 1).zip(points) {
-        match point {
-            Point::Slice { slice_type, qp, .. } => {
-                let bar = bars[*slice_type as usize % 5]
-                    .entry(x)
-                    .or_insert((*qp, *qp));
-                *bar = (bar.0.min(*qp), bar.1.max(*qp));
-                least = least.min(*qp);
-                greatest = greatest.max(*qp);
-            }
-            Point::Refused { .. } => *refused.entry(x).or_insert(0u64) += 1,
+/// No more columns are kept than this, however many slices there are.
+const COLUMNS: usize = 2048;
+
+/// What falls on one column of the picture.
+#[derive(Clone, Copy, Default)]
+struct Column {
+    place: u64,
+    /// the least and the greatest QP of each slice type
+    ends: [Option<(i64, i64)>; 5],
+    /// how many units are refused, and the number of the first
+    refused: u64,
+    number: u32,
+}
+
+impl Column {
+    fn join(self, next: Column) -> Column {
+        let mut both = self;
+        for (mine, other) in both.ends.iter_mut().zip(next.ends) {
+            *mine = match (*mine, other) {
+                (Some(a), Some(b)) => Some((a.0.min(b.0), a.1.max(b.1))),
+                (a, b) => a.or(b),
+            };
+        }
+        if self.refused == 0 {
+            both.number = next.number;
+        }
+        both.refused += next.refused;
+        both
+    }
+}
+
+/// Slices and refused units one after the other, whatever lies between them in the recording.
+pub struct Course {
+    columns: Vec<Column>,
+    /// how many of them a column holds, and the last one
+    step: u64,
+    in_last: u64,
+    count: u64,
+    /// how many units each number refuses
+    refused: [u64; 64],
+}
+
+impl Default for Course {
+    fn default() -> Course {
+        Course {
+            columns: Vec::new(),
+            step: 1,
+            in_last: 0,
+            count: 0,
+            refused: [0; 64],
         }
     }
-    if least > greatest {
-        (least, greatest) = (0, 51);
-    }
-    // room above for the legend
-    let (low, high) = (least - 2, greatest + 2 + (greatest - least) / 3);
-    let size = if count > COLUMNS / 4 { 2 } else { 4 };
+}
 
-    let area = SVGBackend::new(path, SIZE).into_drawing_area();
-    area.fill(&WHITE)?;
-    let mut chart = ChartBuilder::on(&area)
-        .margin(12)
-        .caption(format!("QP over {name}"), ("sans-serif", 20))
-        .x_label_area_size(46)
-        .y_label_area_size(54)
-        .build_cartesian_2d(0..count + 1, low..high)?;
-    chart
-        .configure_mesh()
-        .x_desc("slices and refused units, in their order")
-        .y_desc("slice QP")
-        .label_style(TEXT)
-        .axis_desc_style(TEXT)
-        .bold_line_style(GRID)
-        .light_line_style(TRANSPARENT)
-        .draw()?;
-    for (kind, bars) in bars.iter().enumerate().filter(|(_, b)| !b.is_empty()) {
-        let colour = COLOURS[kind];
-        let bar = |(x, (a, b)): (&u64, &(i32, i32))| {
-            PathElement::new([(*x, *a), (*x, *b)], colour.stroke_width(1))
+impl Course {
+    /// A slice by its type and QP, or a refused unit by its number.
+    pub fn take(&mut self, place: u64, what: Result<(u32, i64), u32>) {
+        let mut column = Column {
+            place,
+            ..Column::default()
         };
-        let dot = |at: (u64, i32)| Circle::new(at, size, colour.filled());
-        let spread = bars.iter().filter(|(_, (a, b))| a < b);
-        chart.draw_series(spread.clone().map(bar))?;
-        chart.draw_series(spread.map(|(x, (_, b))| dot((*x, *b))))?;
-        chart
-            .draw_series(bars.iter().map(|(x, (a, _))| dot((*x, *a))))?
-            .label(TYPES[kind])
-            .legend(move |(x, y)| Circle::new((x + 7, y), 4, colour.filled()));
+        match what {
+            Ok((family, qp)) => column.ends[family as usize % 5] = Some((qp, qp)),
+            Err(number) => {
+                (column.refused, column.number) = (1, number);
+                self.refused[number.min(63) as usize] += 1;
+            }
+        }
+        self.count += 1;
+        match self.columns.last_mut() {
+            Some(last) if self.in_last < self.step => {
+                *last = last.join(column);
+                self.in_last += 1;
+                return;
+            }
+            _ => {}
+        }
+        if self.columns.len() == COLUMNS {
+            let pairs = self.columns.chunks(2);
+            self.columns = pairs.map(|p| p[0].join(p[1])).collect();
+            self.step *= 2;
+        }
+        self.columns.push(column);
+        self.in_last = 1;
     }
-    // over the slices, so that no line is hidden
-    let torn: u64 = refused.values().sum();
-    if torn > 0 {
-        let line =
-            |(x, _): (&u64, &u64)| PathElement::new([(*x, low), (*x, high)], TORN.stroke_width(2));
-        chart
-            .draw_series(refused.iter().map(line))?
-            .label(format!("refused ({torn})"))
-            .legend(|(x, y)| PathElement::new([(x, y), (x + 14, y)], TORN.stroke_width(2)));
+
+    /// The picture.
+    pub fn svg(&self, name: &str) -> String {
+        let (low, high) = self.range();
+        let mut svg = Svg {
+            text: String::new(),
+            low,
+            high,
+            count: self.count.max(1),
+        };
+        svg.begin(name);
+        svg.qp_axis();
+        self.place_axis(&mut svg);
+        // those that are many lie below those that are few
+        let mut order: Vec<usize> = (0..5).collect();
+        order.sort_by_key(|k| std::cmp::Reverse(self.of_family(*k).count()));
+        for family in order {
+            self.marks(family, &mut svg);
+        }
+        self.torn(&mut svg);
+        self.legend(&mut svg);
+        svg.text + "</svg>\n"
     }
-    chart
-        .configure_series_labels()
-        .position(SeriesLabelPosition::UpperRight)
-        .label_font(TEXT)
-        .background_style(WHITE.mix(0.85))
-        .border_style(GRID)
-        .draw()?;
-    area.present()?;
-    Ok(())
+
+    fn of_family(&self, family: usize) -> impl Iterator<Item = (u64, (i64, i64))> + '_ {
+        let columns = self.columns.iter().zip(0..);
+        columns.filter_map(move |(c, i)| c.ends[family].map(|ends| (i * self.step, ends)))
+    }
+
+    /// The least and the greatest QP with some room; what 8 bits allow where no slice was read.
+    fn range(&self) -> (i64, i64) {
+        let ends = self.columns.iter().flat_map(|c| c.ends).flatten();
+        let ends = ends.reduce(|a, b| (a.0.min(b.0), a.1.max(b.1)));
+        let (least, greatest) = ends.unwrap_or((0, 51));
+        let room = (10 - (greatest - least)).max(2) / 2;
+        (least - room, greatest + room)
+    }
+
+    /// Each column from its least to its greatest QP: points where there are few, thin marks where there are many.
+    fn marks(&self, family: usize, svg: &mut Svg) {
+        let colour = COLOURS[family];
+        if self.columns.len() <= 600 {
+            let radius = if self.columns.len() <= 150 { 4.0 } else { 2.2 };
+            let _ = writeln!(svg.text, r#"<g fill="{colour}">"#);
+            for (i, (least, _)) in self.of_family(family) {
+                let (x, y) = (svg.x(i), svg.y(least));
+                let _ = writeln!(
+                    svg.text,
+                    r#"<circle cx="{x:.1}" cy="{y:.1}" r="{radius}"/>"#
+                );
+            }
+            svg.text += "</g>\n";
+            return;
+        }
+        let (mut path, height) = (String::new(), 2.0);
+        for (i, (least, greatest)) in self.of_family(family) {
+            let x = svg.x(i);
+            let (above, below) = (svg.y(greatest) - height, svg.y(least) + height);
+            let _ = write!(path, "M{x:.1} {above:.1}V{below:.1}");
+        }
+        let wide = (RIGHT - LEFT) / self.columns.len() as f64;
+        let _ = writeln!(
+            svg.text,
+            r#"<path d="{path}" stroke="{colour}" stroke-width="{:.2}" stroke-opacity="0.75" fill="none"/>"#,
+            wide.max(1.4)
+        );
+    }
+
+    /// Red lines over the slices, so that none is hidden, and numbers where there is room.
+    fn torn(&self, svg: &mut Svg) {
+        let (mut path, mut numbers, mut last) = (String::new(), String::new(), f64::MIN);
+        for (column, i) in self.columns.iter().zip(0..) {
+            if column.refused == 0 {
+                continue;
+            }
+            let x = svg.x(i * self.step);
+            let _ = write!(path, "M{x:.1} {TOP}V{BOTTOM}");
+            if x - last >= 20.0 {
+                last = x;
+                let (y, number) = (TOP - 5.0, column.number);
+                let _ = writeln!(
+                    numbers,
+                    r#"<text x="{x:.1}" y="{y}" text-anchor="middle" fill="{TORN}">{number}</text>"#
+                );
+            }
+        }
+        if !path.is_empty() {
+            let wide = if self.columns.len() <= 600 { 2.0 } else { 1.0 };
+            let _ = writeln!(
+                svg.text,
+                r#"<path d="{path}" stroke="{TORN}" stroke-width="{wide}" fill="none"/>"#
+            );
+            svg.text += &numbers;
+        }
+    }
+
+    /// How many there are of each type, and what was refused.
+    fn legend(&self, svg: &mut Svg) {
+        let mut x = LEFT;
+        let mut entry = |colour: &str, words: &str| {
+            let (text, y) = (&mut svg.text, 42.0);
+            let _ = writeln!(
+                text,
+                r#"<rect x="{x:.0}" y="{:.0}" width="12" height="12" fill="{colour}"/>"#,
+                y - 11.0
+            );
+            let _ = writeln!(
+                text,
+                r#"<text x="{:.0}" y="{y:.0}">{words}</text>"#,
+                x + 18.0
+            );
+            x += 44.0 + 8.0 * words.len() as f64;
+        };
+        for (family, name) in FAMILIES.iter().enumerate() {
+            if self.of_family(family).next().is_some() {
+                entry(COLOURS[family], name);
+            }
+        }
+        let all: u64 = self.refused.iter().sum();
+        if all == 0 {
+            return;
+        }
+        let mut numbers: Vec<_> = (1..64).filter(|n| self.refused[*n] > 0).collect();
+        numbers.sort_by_key(|n| std::cmp::Reverse(self.refused[*n]));
+        let more = if numbers.len() > 6 { ", .." } else { "" };
+        let told: Vec<_> = (numbers.iter().take(6))
+            .map(|n| format!("{n}: {}", self.refused[*n]))
+            .collect();
+        entry(TORN, &format!("refused {all} ({}{more})", told.join(", ")));
+    }
+
+    /// The order of the units, and where they stand in the recording.
+    fn place_axis(&self, svg: &mut Svg) {
+        let step = nice(svg.count as f64 / 8.0).max(1);
+        let ticks = (1..).map(|k| k * step - 1).take_while(|i| *i < self.count);
+        let first = (self.count > 0).then_some(0);
+        for i in first.into_iter().chain(ticks.filter(|i| *i > 0)) {
+            let column = &self.columns[(i / self.step) as usize];
+            let (x, n) = (svg.x(i), i + 1);
+            let _ = writeln!(
+                svg.text,
+                r##"<path d="M{x:.1} {TOP}V{:.0}" stroke="#E2E2E2" fill="none"/>"##,
+                BOTTOM + 5.0
+            );
+            for (words, y) in [(n.to_string(), 20.0), (grouped(column.place), 38.0)] {
+                let y = BOTTOM + y;
+                let _ = writeln!(
+                    svg.text,
+                    r#"<text x="{x:.1}" y="{y:.0}" text-anchor="middle">{words}</text>"#
+                );
+            }
+        }
+        let (x, y) = ((LEFT + RIGHT) / 2.0, BOTTOM + 58.0);
+        let words = match self.count {
+            0 => "no slice and no refused unit",
+            _ => "slices and refused units in their order, and the place of each in bytes",
+        };
+        let _ = writeln!(
+            svg.text,
+            r#"<text x="{x:.0}" y="{y:.0}" text-anchor="middle">{words}</text>"#
+        );
+    }
+}
+
+/// A picture that has begun, with its scales.
+struct Svg {
+    text: String,
+    low: i64,
+    high: i64,
+    count: u64,
+}
+
+impl Svg {
+    fn x(&self, i: u64) -> f64 {
+        LEFT + (RIGHT - LEFT) * (i as f64 + 0.5) / self.count as f64
+    }
+
+    fn y(&self, qp: i64) -> f64 {
+        let part = (qp - self.low) as f64 / (self.high - self.low) as f64;
+        BOTTOM - (BOTTOM - TOP) * part
+    }
+
+    fn begin(&mut self, name: &str) {
+        let (w, h) = (WIDTH, HEIGHT);
+        let _ = writeln!(
+            self.text,
+            r##"<svg xmlns="http://www.w3.org/2000/svg" width="{w}" height="{h}" viewBox="0 0 {w} {h}" font-family="sans-serif" font-size="14" fill="#222222">
+<rect width="{w}" height="{h}" fill="#FFFFFF"/>
+<text x="{LEFT}" y="22" font-size="18">QP over {}</text>"##,
+            escaped(&shown::text(name))
+        );
+    }
+
+    fn qp_axis(&mut self) {
+        let step = nice((self.high - self.low) as f64 / 8.0).max(1) as i64;
+        let first = self.low.div_euclid(step) * step;
+        let ticks = (0..).map(|k| first + k * step);
+        let (low, high) = (self.low, self.high);
+        for qp in ticks.skip_while(|q| *q < low).take_while(|q| *q <= high) {
+            let y = self.y(qp);
+            let _ = writeln!(
+                self.text,
+                r##"<path d="M{LEFT} {y:.1}H{RIGHT}" stroke="#E2E2E2" fill="none"/>
+<text x="{:.0}" y="{:.1}" text-anchor="end">{qp}</text>"##,
+                LEFT - 8.0,
+                y + 5.0
+            );
+        }
+        let y = (TOP + BOTTOM) / 2.0;
+        let _ = writeln!(
+            self.text,
+            r##"<path d="M{LEFT} {TOP}V{BOTTOM}H{RIGHT}" stroke="#888888" fill="none"/>
+<text x="18" y="{y:.0}" text-anchor="middle" transform="rotate(-90 18 {y:.0})">slice QP</text>"##
+        );
+    }
+}
+
+/// 1, 2 or 5 and zeros: not less than asked for.
+fn nice(least: f64) -> u64 {
+    let mut ten = 1u64;
+    loop {
+        for k in [1, 2, 5] {
+            if (k * ten) as f64 >= least {
+                return k * ten;
+            }
+        }
+        ten *= 10;
+    }
+}
+
+/// 1234567 as 1,234,567.
+fn grouped(n: u64) -> String {
+    let digits = n.to_string();
+    let mut told = String::new();
+    for (i, digit) in digits.chars().enumerate() {
+        if i > 0 && (digits.len() - i) % 3 == 0 {
+            told.push(',');
+        }
+        told.push(digit);
+    }
+    told
+}
+
+fn escaped(text: &str) -> String {
+    let text = text.replace('&', "&amp;").replace('<', "&lt;");
+    text.replace('>', "&gt;").replace('"', "&quot;")
 }

@@ -1,18 +1,19 @@
 //! `tuz tear`: damages a clip at a place, and says what reading the torn one must then give.
 
 use crate::input::Clip;
-use anyhow::{ensure, Context, Result};
+use crate::output::{Output, Stdout};
+use crate::stop;
+use anyhow::{ensure, Result};
 use clap::{Args, ValueEnum};
-use std::fs;
-use std::io::Write;
+use std::fmt::Write;
 use std::path::PathBuf;
-use tuzmarghil::{reports, Report, Table};
+use tuzmarghil::{reports, Report, Table, LIMIT};
 
 #[derive(Args)]
 pub struct Tear {
     #[command(flatten)]
     clip: Clip,
-    /// Where the torn clip goes
+    /// Where the torn clip goes; `-` is standard output, and what is told then goes to standard error
     #[arg(short, long, value_name = "FILE")]
     out: PathBuf,
     /// What happens to it
@@ -70,25 +71,42 @@ impl Random {
     }
 }
 
-pub fn run(tear: &Tear, to: &mut impl Write) -> Result<()> {
-    let table = tear.clip.table()?;
-    let mut clip = tear.clip.bytes()?;
-    let mut random = Random(tear.seed);
+pub fn run(tear: &Tear, to: &mut Stdout) -> Result<()> {
+    let at = tear.at;
     ensure!(
-        tear.at.is_none() || tear.times == 1,
+        at.is_none() || tear.times == 1,
         "--at is one place: leave it out for more --times"
     );
+    ensure!(
+        tear.length <= LIMIT,
+        "--length {} is over {LIMIT} bytes",
+        tear.length
+    );
+    let table = tear.clip.table()?;
+    let recording = tear.clip.open()?;
+    let mut outputs = Output::open(&tear.clip.inputs(), &[Some(&tear.out)])?;
+    let mut clip = recording.bytes()?;
+    let (mut random, mut told) = (Random(tear.seed), String::new());
     for _ in 0..tear.times {
-        let at = tear.at.unwrap_or_else(|| random.below(clip.len()));
+        stop::check()?;
+        let at = at.unwrap_or_else(|| random.below(clip.len()));
         let length = clip.len();
         ensure!(at <= length, "--at {at} is past the clip's {length} bytes");
-        let damage = Damage::of(tear, &clip, at, &mut random);
+        let damage = Damage::of(tear, &clip, at, &mut random)?;
         let torn = damage.apply(&clip);
-        damage.expect(&table, &clip, &torn, to)?;
+        damage.expect(&table, &clip, &torn, &mut told)?;
         clip = torn;
     }
-    fs::write(&tear.out, &clip).with_context(|| tear.out.display().to_string())?;
-    writeln!(to, "written {} length={}", tear.out.display(), clip.len())?;
+    if let Some(mut out) = outputs.pop().flatten() {
+        let _ = writeln!(told, "written {} length={}", out.name(), clip.len());
+        out.write(&clip, to)?;
+        if out.is_stdout() {
+            eprint!("{told}");
+        } else {
+            out.finish()?;
+            to.write(told.as_bytes())?;
+        }
+    }
     Ok(())
 }
 
@@ -100,7 +118,7 @@ struct Damage {
 }
 
 impl Damage {
-    fn of(tear: &Tear, clip: &[u8], at: usize, random: &mut Random) -> Damage {
+    fn of(tear: &Tear, clip: &[u8], at: usize, random: &mut Random) -> Result<Damage> {
         let rest = clip.len() - at;
         let (gone, new) = match tear.how {
             How::Cut => (rest, 0),
@@ -108,18 +126,25 @@ impl Damage {
             How::Remove => (tear.length.min(rest), 0),
             How::Insert => (0, tear.length),
         };
+        ensure!(
+            clip.len() - gone + new <= LIMIT,
+            "the torn clip would be over {LIMIT} bytes"
+        );
         let from = random.below(clip.len());
         let byte = |i: usize| match tear.with {
             With::Zeros => 0,
             With::Ones => 255,
             With::Random => random.next() as u8,
-            With::Copy => clip[(from + i) % clip.len()],
+            With::Copy => clip
+                .get((from + i) % clip.len().max(1))
+                .copied()
+                .unwrap_or(0),
         };
-        Damage {
+        Ok(Damage {
             at,
             gone,
             new: (0..new).map(byte).collect(),
-        }
+        })
     }
 
     fn apply(&self, clip: &[u8]) -> Vec<u8> {
@@ -127,7 +152,7 @@ impl Damage {
     }
 
     /// Says what both clips must have in common: the units whose end mark lies before the damage, and those whose start code lies behind it. Then looks whether they do.
-    fn expect(&self, table: &Table, clip: &[u8], torn: &[u8], to: &mut impl Write) -> Result<()> {
+    fn expect(&self, table: &Table, clip: &[u8], torn: &[u8], to: &mut String) -> Result<()> {
         let (at, gone, new) = (self.at, self.gone, self.new.len());
         let was: Vec<Report> = reports(table, clip)?.collect();
         let is: Vec<Report> = reports(table, torn)?.collect();

@@ -1,5 +1,6 @@
 //! Words that fill a table: `sps:..` and `pps:..`, as case lines and table files have them.
 
+use crate::shown;
 use anyhow::{bail, ensure, Context, Result};
 use std::str::FromStr;
 use tuzmarghil::{Picture, Refusal, Sequence, Table};
@@ -15,7 +16,7 @@ impl Fields<'_> {
             .with_context(|| format!("{name} is missing"))?;
         match text.parse() {
             Ok(n) => Ok(n),
-            Err(_) => bail!("{name}={text} is not a number that fits"),
+            Err(_) => bail!("{name}={} is not a number that fits", shown::word(text)),
         }
     }
 
@@ -28,50 +29,98 @@ impl Fields<'_> {
     }
 }
 
+/// Which set a word holds.
+#[derive(Clone, Copy, PartialEq)]
+enum Set {
+    Sequence(u32),
+    /// with the id of its sequence set
+    Picture(u32, u32),
+}
+
 /// Puts a word's set into the table. The inner answer is the table's.
-pub fn put(table: &mut Table, word: &str) -> Result<Result<(), Refusal>> {
+fn put(table: &mut Table, word: &str) -> Result<Result<Set, Refusal>> {
     let mut f = Fields(word.split(':'));
     match f.0.next() {
         Some("sps") => {
             let id = f.next("seq_parameter_set_id")?;
-            let set = Sequence {
-                chroma_format_idc: f.next("chroma_format_idc")?,
-                separate_colour_plane_flag: f.flag("separate_colour_plane_flag")?,
-                bit_depth_luma_minus8: f.next("bit_depth_luma_minus8")?,
-                log2_max_frame_num: f.next("log2_max_frame_num")?,
-                pic_order_cnt_type: f.next("pic_order_cnt_type")?,
-                log2_max_pic_order_cnt_lsb_minus4: f.next("log2_max_pic_order_cnt_lsb_minus4")?,
-                delta_pic_order_always_zero_flag: f.flag("delta_pic_order_always_zero_flag")?,
-                frame_mbs_only_flag: f.flag("frame_mbs_only_flag")?,
-                pic_size_in_map_units: f.next("pic_size_in_map_units")?,
-            };
+            let mut set = Sequence::default();
+            set.chroma_format_idc = f.next("chroma_format_idc")?;
+            set.separate_colour_plane_flag = f.flag("separate_colour_plane_flag")?;
+            set.bit_depth_luma_minus8 = f.next("bit_depth_luma_minus8")?;
+            set.log2_max_frame_num = f.next("log2_max_frame_num")?;
+            set.pic_order_cnt_type = f.next("pic_order_cnt_type")?;
+            set.log2_max_pic_order_cnt_lsb_minus4 = f.next("log2_max_pic_order_cnt_lsb_minus4")?;
+            set.delta_pic_order_always_zero_flag = f.flag("delta_pic_order_always_zero_flag")?;
+            set.frame_mbs_only_flag = f.flag("frame_mbs_only_flag")?;
+            set.pic_size_in_map_units = f.next("pic_size_in_map_units")?;
             ensure!(f.0.next().is_none(), "more fields than a sequence set has");
-            Ok(table.put_sequence(id, set))
+            Ok(table.put_sequence(id, set).map(|()| Set::Sequence(id)))
         }
         Some("pps") => {
             let id = f.next("pic_parameter_set_id")?;
-            let set = Picture {
-                seq_parameter_set_id: f.next("seq_parameter_set_id")?,
-                entropy_coding_mode_flag: f.flag("entropy_coding_mode_flag")?,
-                bottom_field_pic_order_in_frame_present_flag: f
-                    .flag("bottom_field_pic_order_in_frame_present_flag")?,
-                num_ref_idx_l0_default_active_minus1: f
-                    .next("num_ref_idx_l0_default_active_minus1")?,
-                num_ref_idx_l1_default_active_minus1: f
-                    .next("num_ref_idx_l1_default_active_minus1")?,
-                weighted_pred_flag: f.flag("weighted_pred_flag")?,
-                weighted_bipred_idc: f.next("weighted_bipred_idc")?,
-                pic_init_qp_minus26: f.next("pic_init_qp_minus26")?,
-                pic_init_qs_minus26: f.next("pic_init_qs_minus26")?,
-                deblocking_filter_control_present_flag: f
-                    .flag("deblocking_filter_control_present_flag")?,
-                redundant_pic_cnt_present_flag: f.flag("redundant_pic_cnt_present_flag")?,
-                slice_group_change_rate: f.next("slice_group_change_rate")?,
-            };
+            let mut set = Picture::default();
+            set.seq_parameter_set_id = f.next("seq_parameter_set_id")?;
+            set.entropy_coding_mode_flag = f.flag("entropy_coding_mode_flag")?;
+            set.bottom_field_pic_order_in_frame_present_flag =
+                f.flag("bottom_field_pic_order_in_frame_present_flag")?;
+            set.num_ref_idx_l0_default_active_minus1 =
+                f.next("num_ref_idx_l0_default_active_minus1")?;
+            set.num_ref_idx_l1_default_active_minus1 =
+                f.next("num_ref_idx_l1_default_active_minus1")?;
+            set.weighted_pred_flag = f.flag("weighted_pred_flag")?;
+            set.weighted_bipred_idc = f.next("weighted_bipred_idc")?;
+            set.pic_init_qp_minus26 = f.next("pic_init_qp_minus26")?;
+            set.pic_init_qs_minus26 = f.next("pic_init_qs_minus26")?;
+            set.deblocking_filter_control_present_flag =
+                f.flag("deblocking_filter_control_present_flag")?;
+            set.redundant_pic_cnt_present_flag = f.flag("redundant_pic_cnt_present_flag")?;
+            set.slice_group_change_rate = f.next("slice_group_change_rate")?;
             ensure!(f.0.next().is_none(), "more fields than a picture set has");
-            Ok(table.put_picture(id, set))
+            let of = set.seq_parameter_set_id;
+            Ok(table.put_picture(id, set).map(|()| Set::Picture(id, of)))
         }
         _ => bail!("a word of the table begins with sps: or pps:"),
+    }
+}
+
+/// A table, and the sets that were put into it.
+#[derive(Default)]
+pub struct Filled {
+    pub table: Table,
+    sets: Vec<Set>,
+}
+
+impl Filled {
+    /// Puts a word's set into the table. The inner answer is the table's.
+    pub fn put(&mut self, word: &str) -> Result<Result<(), Refusal>> {
+        let set = put(&mut self.table, word)?;
+        Ok(set.map(|set| self.sets.push(set)))
+    }
+
+    /// What is likely not meant: ids that stand more than once, and picture sets whose sequence set is not there.
+    pub fn doubts(&self) -> Vec<String> {
+        let mut told = vec![];
+        for (name, most) in [("sps", 32), ("pps", 256)] {
+            for id in 0..most {
+                let is = |set: &&Set| match set {
+                    Set::Sequence(n) => name == "sps" && *n == id,
+                    Set::Picture(n, _) => name == "pps" && *n == id,
+                };
+                let times = self.sets.iter().filter(is).count();
+                if times > 1 {
+                    told.push(format!(
+                        "{name}:{id} stands {times} times; the last one holds"
+                    ));
+                }
+            }
+        }
+        for id in 0..256 {
+            let of = self.table.picture(id).map(|set| set.seq_parameter_set_id);
+            if let Some(of) = of.filter(|of| self.table.sequence(*of).is_none()) {
+                told.push(format!("pps:{id} names the sequence set {of}, which is not in the table: its slices are refused with 10"));
+            }
+        }
+        told
     }
 }
 
@@ -79,7 +128,7 @@ pub fn put(table: &mut Table, word: &str) -> Result<Result<(), Refusal>> {
 pub fn table<'a>(words: impl Iterator<Item = &'a str>) -> Result<Table> {
     let mut table = Table::new();
     for word in words {
-        let _refused = put(&mut table, word).with_context(|| word.to_owned())?;
+        let _refused = put(&mut table, word).with_context(|| shown::word(word))?;
     }
     Ok(table)
 }

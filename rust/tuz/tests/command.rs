@@ -1,50 +1,14 @@
 //! The command as it is used: what it prints, on which stream, with which exit status.
 
+mod common;
+
+use common::*;
 use std::fs::{self, File, Permissions};
 use std::io::{Seek, SeekFrom, Write};
 use std::os::unix::fs::{MetadataExt, PermissionsExt};
 use std::os::unix::process::CommandExt;
 use std::path::{Path, PathBuf};
-use std::process::{Command, Output, Stdio};
-
-/// Document 01's listing: its bytes and its lines.
-const CLIP: [u8; 13] = [0, 0, 0, 1, 0x65, 0x88, 0x84, 0xA0, 0, 0, 1, 0x09, 0xF0];
-const LISTING: &str = "\
-unit place=4 length=4 slice type=7 frame=0 qp=26
-unit place=11 length=2 other type=9
-end units=2 refused=0
-";
-const SETS: &str = "sps:0:1:0:0:4:2:0:0:1:99 pps:0:0:0:0:0:0:0:0:0:0:0:0:0";
-
-fn tuz(words: &[&str], input: &[u8]) -> Output {
-    run(Command::new(env!("CARGO_BIN_EXE_tuz")).args(words), input)
-}
-
-fn run(command: &mut Command, input: &[u8]) -> Output {
-    let mut child = command
-        .stdin(Stdio::piped())
-        .stdout(Stdio::piped())
-        .stderr(Stdio::piped())
-        .spawn()
-        .unwrap();
-    let _closed_early = child.stdin.take().unwrap().write_all(input);
-    child.wait_with_output().unwrap()
-}
-
-fn out(done: &Output) -> String {
-    String::from_utf8(done.stdout.clone()).unwrap()
-}
-
-fn err(done: &Output) -> String {
-    String::from_utf8(done.stderr.clone()).unwrap()
-}
-
-/// A file of a test's own.
-fn file(name: &str, bytes: &[u8]) -> PathBuf {
-    let path = PathBuf::from(env!("CARGO_TARGET_TMPDIR")).join(name);
-    fs::write(&path, bytes).unwrap();
-    path
-}
+use std::process::{Command, Stdio};
 
 #[test]
 fn the_listing_of_document_01() {
@@ -55,7 +19,7 @@ fn the_listing_of_document_01() {
     );
     assert_eq!(
         err(&done),
-        "standard input: 2 units, 6 bytes: 1 slices (1 I), 0 prefix units, 1 others, 0 refused\n"
+        "standard input: 13 bytes, 7 of them in no unit; 2 units: 1 slices (1 I), 0 prefix units, 1 others, 0 refused\n"
     );
 
     let (clip, table) = (file("a.264", &CLIP), file("a.table", SETS.as_bytes()));
@@ -76,9 +40,12 @@ fn every_field_in_three_formats() {
     let rest = "refused 1 value=0\nrefused 9 value=0\n";
     assert_eq!(out(&done), format!("{line}{rest}"));
 
+    // with the type's letter and the final QP
     let text = tuz(&["headers", "-", "--sample"], &CLIP);
+    let more = line.replace("slice_type=7", "slice_type=7 family=I");
+    let more = more.replace("bits=17", "bits=17 qp=26");
     let other = "unit place=11 length=2 other type=9\n";
-    assert_eq!(out(&text), format!("unit place=4 length=4 {line}{other}"));
+    assert_eq!(out(&text), format!("unit place=4 length=4 {more}{other}"));
 
     let json = out(&tuz(
         &["headers", "-", "--sample", "--format", "json"],
@@ -189,21 +156,14 @@ fn words_of_a_case_are_looked_at() {
     }
 }
 
-/// A path as a word.
-fn word(path: &Path) -> &str {
-    path.to_str().unwrap()
-}
-
 #[test]
 fn what_cannot_be_read_is_named() {
     let (folder, missing) = (env!("CARGO_TARGET_TMPDIR"), "/nowhere/clip.264");
-    let lengths = file("lengths", &[0, 0, 0, 4, 0x65, 0x88, 0x84, 0xA0]);
-    let movie = file("movie.mp4", b"\0\0\0\x20ftypisom\0\0\x02\0");
     // a file that opens, but whose first read fails: no memory is at address 0
     let unreadable = "/proc/self/mem";
     let why = fs::read(unreadable).unwrap_err();
     let failed = format!("{unreadable}: {why}");
-    let letter = file("letter.txt", &b"Clear sky since nine. ".repeat(100_000));
+    let short = file("letter.txt", b"Clear sky since nine.");
     for (path, told) in [
         (missing, "/nowhere/clip.264: there is no such file"),
         (folder, "is a directory"),
@@ -211,34 +171,165 @@ fn what_cannot_be_read_is_named() {
         ("-", "standard input: is empty"),
         (unreadable, &failed),
         (
-            word(&lengths),
-            "lengths: no start code (00 00 01) in its first 8 bytes",
+            word(&short),
+            "letter.txt: no start code (00 00 01) in its 21 bytes, so this is no H.264 byte stream",
         ),
-        (word(&lengths), "behind lengths"),
-        (word(&movie), "h264_mp4toannexb"),
-        (
-            word(&letter),
-            "no start code (00 00 01) in its first 1048576 bytes",
-        ),
-        (word(&letter), "Units may stand behind lengths"),
     ] {
-        let torn = file("not written", &[]);
-        fs::remove_file(&torn).unwrap();
-        for words in [
-            &["list", path][..],
-            &["headers", path],
-            &["qp", path],
-            &["tear", path, "-o", word(&torn)],
+        is_refused(path, told);
+    }
+    let forced = tuz(&["list", word(&short), "--force"], &[]);
+    assert_eq!(out(&forced), "end units=0 refused=0\n");
+}
+
+/// Every command says so, with status 2, and writes nothing.
+fn is_refused(path: &str, told: &str) {
+    let names = ["torn", "csv", "svg"].map(|n| format!("{}/none.{n}", env!("CARGO_TARGET_TMPDIR")));
+    let [torn, csv, svg] = &names;
+    for words in [
+        &["list", path][..],
+        &["headers", path, "--format", "csv"],
+        &["qp", path, "--csv", csv, "--plot", svg],
+        &["tear", path, "-o", torn],
+    ] {
+        let done = tuz(words, &[]);
+        let all = err(&done);
+        let last = all.lines().last().unwrap();
+        assert!(last.starts_with("tuz: ") && last.contains(told), "{all}");
+        assert_eq!((done.status.code(), out(&done).as_str()), (Some(2), ""));
+        assert!(names.iter().all(|n| !Path::new(n).exists()), "{words:?}");
+    }
+}
+
+/// A container is told by its first bytes, whatever start codes stand in it, with the command that takes the stream out.
+#[test]
+fn containers_are_no_byte_streams() {
+    let boxed = |name: &[u8]| [&[0, 0, 0, 32], name, &[0; 24], &CLIP.repeat(9)].concat();
+    let packet = [&[0x47, 0x40, 0, 0x10][..], &CLIP, &[255; 171]].concat();
+    let timed = [&[0, 0, 1, 9][..], &packet].concat();
+    for (name, bytes) in [
+        ("an MP4 file", boxed(b"ftypisom")),
+        (
+            "an MP4 file",
+            [&[0, 0, 1, 0][..], b"ftyp", &[0; 248], &CLIP].concat(),
+        ),
+        ("a QuickTime (MOV) file", boxed(b"moov")),
+        (
+            "a Matroska (MKV) or WebM file",
+            [&[0x1A, 0x45, 0xDF, 0xA3][..], &CLIP].concat(),
+        ),
+        (
+            "an AVI file",
+            [&b"RIFF\0\0\x01\0AVI LIST"[..], &CLIP].concat(),
+        ),
+        (
+            "an FLV file",
+            [&b"FLV\x01\x05\0\0\0\x09"[..], &CLIP].concat(),
+        ),
+        ("an MPEG transport stream (TS)", packet.repeat(20)),
+        (
+            "an MPEG transport stream (TS)",
+            packet.repeat(20)[100..].to_vec(),
+        ),
+        ("an MPEG transport stream (TS)", timed.repeat(20)),
+        (
+            "an MPEG program stream",
+            [&[0, 0, 1, 0xBA, 0x44][..], &CLIP].concat(),
+        ),
+    ] {
+        let path = file("container", &bytes);
+        is_refused(
+            word(&path),
+            &format!("container: is {name}, no H.264 byte stream; `ffmpeg -i FILE"),
+        );
+        let forced = tuz(&["list", word(&path), "--sample", "--force"], &[]);
+        assert!(out(&forced).contains("slice type=7"));
+    }
+}
+
+/// Units behind lengths: told, with a command that puts start codes in their place.
+#[test]
+fn lengths_are_no_start_codes() {
+    let clip = [0, 0, 0, 4, 0x65, 0x88, 0x84, 0xA0, 0, 0, 0, 2, 0x09, 0xF0];
+    // a length can look like a start code
+    let long = [&[0, 0, 1, 0, 0x09][..], &[0xF0; 255]].concat();
+    for (bytes, units) in [
+        (clip.to_vec(), 2),
+        ([&clip[..], &long.repeat(5)].concat(), 7),
+        (long.repeat(5), 5),
+    ] {
+        let path = file("lengths", &bytes);
+        is_refused(
+            word(&path),
+            "lengths: has its units behind lengths of 4 bytes",
+        );
+        let told = err(&tuz(&["list", word(&path)], &[]));
+        let converter = told.split('`').nth(1).unwrap();
+        let converter = converter
+            .replace("FILE", word(&path))
+            .replace("OUT.264", "/dev/stdout");
+        let converted = Command::new("sh")
+            .args(["-c", &converter])
+            .output()
+            .unwrap();
+        let listed = out(&tuz(&["list", "-", "--sample"], &converted.stdout));
+        assert!(
+            listed.ends_with(&format!("end units={units} refused=0\n")),
+            "{listed}"
+        );
+    }
+}
+
+/// Where no start code comes for long, it is told, and read on.
+#[test]
+fn zeros_before_a_clip() {
+    let mut clip = vec![0; 1_100_000];
+    clip.extend(&CLIP);
+    for path in [word(&file("late.264", &clip)), "-"] {
+        for (command, told) in [
+            ("list", "end units=2 refused=0\n"),
+            ("qp", "total refused=0\n"),
         ] {
-            let done = tuz(words, &[]);
-            assert!(err(&done).starts_with("tuz: "), "{}", err(&done));
-            assert!(err(&done).contains(told), "{}", err(&done));
-            assert_eq!((done.status.code(), out(&done).as_str()), (Some(2), ""));
-            assert!(!torn.exists());
+            let done = tuz(&[command, path, "--sample", "-q"], &clip);
+            assert!(out(&done).ends_with(told), "{}", out(&done));
+            assert!(
+                err(&done).contains("in its first 1048576 bytes; reading on\n"),
+                "{}",
+                err(&done)
+            );
+            assert_eq!(
+                (done.status.code(), err(&done).lines().count()),
+                (Some(0), 1)
+            );
         }
     }
-    let forced = tuz(&["list", word(&lengths), "--force"], &[]);
-    assert_eq!(out(&forced), "end units=0 refused=0\n");
+    let letter = file("long.txt", &b"Clear sky since nine. ".repeat(100_000));
+    is_refused(
+        word(&letter),
+        "long.txt: no start code (00 00 01) in its 2200000 bytes",
+    );
+}
+
+/// Without a table slices are refused; what is missing is said once.
+#[test]
+fn a_missing_table_is_said_once() {
+    let clip = CLIP.repeat(3);
+    for command in ["list", "headers", "qp"] {
+        let done = tuz(&[command, "-", "-q"], &clip);
+        let told = "tuz: standard input: no table is given, so its slices are refused with 9: `--table FILE` names the parameter sets (`tuz help cases`)\n";
+        assert_eq!((err(&done).as_str(), done.status.code()), (told, Some(0)));
+        let table = file(
+            "another.table",
+            b"sps:0:1:0:0:4:2:0:0:1:99 pps:7:0:0:0:0:0:0:0:0:0:0:0:0",
+        );
+        let done = tuz(&[command, "-", "-q", "--table", word(&table)], &clip);
+        assert_eq!(
+            err(&done),
+            "tuz: standard input: no slice has its parameter sets in the table\n"
+        );
+        // a slice that was read shows that the table is the right one
+        let torn = [&clip[..], &[0, 0, 1, 0x65, 0x88, 0x90, 0x80]].concat();
+        assert_eq!(err(&tuz(&[command, "-", "-q", "--sample"], &torn)), "");
+    }
 }
 
 /// Root may read every file, so the command runs as another user there.
@@ -250,7 +341,7 @@ fn a_file_that_may_not_be_read_is_named() {
     let (program, clip) = (folder.join("tuz"), folder.join("locked.264"));
     fs::copy(env!("CARGO_BIN_EXE_tuz"), &program).unwrap();
     fs::write(&clip, CLIP).unwrap();
-    fs::set_permissions(&clip, Permissions::from_mode(0)).unwrap();
+    fs::set_permissions(&clip, Permissions::from_mode(0o0)).unwrap();
     let mut command = Command::new(&program);
     if fs::metadata(&folder).unwrap().uid() == 0 {
         command.uid(65534).gid(65534);
@@ -287,6 +378,32 @@ fn a_table_that_cannot_be_read_is_named() {
     }
     let done = tuz(&["list", "-", "--table", "/nowhere/table"], &CLIP);
     assert_eq!(err(&done), "tuz: /nowhere/table: there is no such file\n");
+    for (table, told) in [
+        ("/dev/zero", "/dev/zero: is no table, which is a text of words such as sps:0:1:0:0:4:2:0:0:1:99, and it is over 1048576 bytes\n"),
+        (word(&file("wide.table", b"\xFF\xFEs\0p\0")), "wide.table: is UTF-16 text; a table is UTF-8, or plain ASCII\n"),
+    ] {
+        let done = within_mib(100, &["list", "-", "--table", table], &CLIP);
+        assert!(err(&done).ends_with(told), "{}", err(&done));
+        assert_eq!((done.status.code(), out(&done).as_str()), (Some(2), ""));
+    }
+}
+
+/// What a table likely does not mean is told, and read as it stands.
+#[test]
+fn a_doubtful_table_is_told() {
+    let marked = format!("\u{FEFF}{SETS}");
+    let twice = format!("sps:0:1:0:0:5:2:0:0:1:99 {SETS} {SETS}");
+    let lost = format!("{SETS} pps:9:4:0:0:0:0:0:0:0:0:0:0:0");
+    for (table, told) in [
+        (marked.as_str(), &["begins with a byte order mark, which is passed over"][..]),
+        (&twice, &["sps:0 stands 3 times; the last one holds", "pps:0 stands 2 times; the last one holds"]),
+        (&lost, &["pps:9 names the sequence set 4, which is not in the table: its slices are refused with 10"]),
+    ] {
+        let path = file("doubtful.table", table.as_bytes());
+        let done = tuz(&["list", "-", "-q", "--table", word(&path)], &CLIP);
+        let want: String = told.iter().map(|t| format!("tuz: {}: {t}\n", word(&path))).collect();
+        assert_eq!((err(&done), out(&done).as_str()), (want, LISTING));
+    }
 }
 
 #[test]
@@ -304,7 +421,7 @@ fn what_cannot_be_written_is_named() {
     let full = File::options().write(true).open("/dev/full").unwrap();
     let clip = file("full.264", &CLIP);
     let done = Command::new(env!("CARGO_BIN_EXE_tuz"))
-        .args(["list", word(&clip)])
+        .args(["list", word(&clip), "--sample"])
         .stdout(full)
         .output()
         .unwrap();
@@ -345,7 +462,7 @@ fn a_hole_in_a_file_over_the_limit() {
     clip.seek(SeekFrom::Start(far)).unwrap();
     clip.write_all(&CLIP).unwrap();
     drop(clip);
-    let done = within_600_mib(&["list", word(&path), "--sample"], &[]);
+    let done = within_mib(100, &["list", word(&path), "--sample"], &[]);
     fs::remove_file(&path).unwrap();
     let (first, second) = (far + 4, far + 11);
     assert_eq!(
@@ -374,7 +491,7 @@ fn a_unit_over_the_limit() {
         let mut clip = vec![0xFF; 3 + length];
         clip[..7].copy_from_slice(&[0, 0, 1, 0x65, 0x88, 0x84, 0xA0]);
         clip.extend_from_slice(&CLIP[1..]);
-        let done = within_600_mib(&["list", "-", "--sample"], &clip);
+        let done = within_mib(600, &["list", "-", "--sample"], &clip);
         let (first, second) = (3 + length + 3, 3 + length + 10);
         assert_eq!(
             out(&done),
@@ -392,22 +509,68 @@ end units=3 refused={refused}
     }
 }
 
-/// The command with no more than 600 MiB of memory to ask for.
-fn within_600_mib(words: &[&str], input: &[u8]) -> Output {
-    let limited = [
-        "-c",
-        "ulimit -v 614400 && exec \"$@\"",
-        "sh",
-        env!("CARGO_BIN_EXE_tuz"),
-    ];
-    run(Command::new("sh").args(limited).args(words), input)
+/// Whatever is asked for, memory is bounded, and what is too much is told.
+#[test]
+fn too_much_is_told() {
+    let clip = file("small.264", &CLIP);
+    let to = PathBuf::from(env!("CARGO_TARGET_TMPDIR")).join("too much");
+    let (clip, to) = (word(&clip), word(&to));
+    let insert = |length| {
+        vec![
+            "tear", clip, "-o", to, "--how", "insert", "--length", length,
+        ]
+    };
+    let again = [&insert("200000000")[..], &["--times", "2"]].concat();
+    for (words, told) in [
+        (
+            insert("18446744073709551615"),
+            "--length 18446744073709551615 is over 268435456 bytes",
+        ),
+        (
+            insert("99999999999"),
+            "--length 99999999999 is over 268435456 bytes",
+        ),
+        (
+            insert("268435456"),
+            "the torn clip would be over 268435456 bytes",
+        ),
+        (again, "the torn clip would be over 268435456 bytes"),
+        (
+            vec!["tear", "/dev/zero", "--force", "-o", to],
+            "/dev/zero: is over 268435456 bytes",
+        ),
+        (
+            vec!["cases", "/dev/zero"],
+            "/dev/zero: line 1 is over 16777216 bytes",
+        ),
+    ] {
+        let done = within_mib(2048, &words, &[]);
+        assert_eq!(err(&done), format!("tuz: {told}\n"), "{words:?}");
+        assert_eq!((done.status.code(), out(&done).as_str()), (Some(2), ""));
+        assert!(!Path::new(to).exists());
+    }
+}
+
+/// A recording of zeros takes no more memory than any other.
+#[test]
+fn zeros_take_no_memory() {
+    let path = file("zeros", &[]);
+    let zeros = File::options().write(true).open(&path).unwrap();
+    zeros.set_len(600 << 20).unwrap();
+    for command in ["list", "headers", "qp"] {
+        let done = within_mib(100, &[command, word(&path)], &[]);
+        let told = "no start code (00 00 01) in its 629145600 bytes";
+        assert!(err(&done).contains(told), "{}", err(&done));
+        assert_eq!(done.status.code(), Some(2));
+    }
+    fs::remove_file(&path).unwrap();
 }
 
 #[test]
 fn a_closed_pipe_is_no_error() {
     for command in ["list", "headers", "qp"] {
         let mut child = Command::new(env!("CARGO_BIN_EXE_tuz"))
-            .args([command, "-", "-q"])
+            .args([command, "-", "-q", "--sample"])
             .stdin(Stdio::piped())
             .stdout(Stdio::piped())
             .stderr(Stdio::piped())
@@ -418,6 +581,35 @@ fn a_closed_pipe_is_no_error() {
         let done = child.wait_with_output().unwrap();
         assert_eq!((done.status.code(), err(&done).as_str()), (Some(0), ""));
     }
+}
+
+/// It ends the printing and not the work: files are written, and the status tells what was refused.
+#[test]
+fn a_closed_pipe_ends_no_work() {
+    let clip = [&CLIP.repeat(20_000)[..], &[0, 0, 1, 0xE5]].concat();
+    let clip = file("much.264", &clip);
+    let folder = PathBuf::from(env!("CARGO_TARGET_TMPDIR"));
+    let (csv, svg) = (folder.join("closed.csv"), folder.join("closed.svg"));
+    let line = "\"$@\" | head -n 1; exit ${PIPESTATUS[0]}";
+    let words = ["-c", line, "bash", env!("CARGO_BIN_EXE_tuz")];
+    let first = ["qp", word(&clip), "--sample", "-q"];
+    let files = ["--csv", word(&csv), "--plot", word(&svg)];
+    for (more, status) in [(&files[..], 0), (&["--strict"], 1)] {
+        let done = Command::new("bash")
+            .args(words)
+            .args(first)
+            .args(more)
+            .output()
+            .unwrap();
+        assert_eq!(
+            (done.status.code(), err(&done).as_str()),
+            (Some(status), "")
+        );
+        assert_eq!(out(&done).lines().count(), 1);
+    }
+    let rows = fs::read_to_string(csv).unwrap();
+    assert_eq!(rows.lines().count(), 20_002);
+    assert!(fs::read_to_string(svg).unwrap().ends_with("</svg>\n"));
 }
 
 /// The demo: one unit of the torn clip is refused, and every other is read as in the whole one.
@@ -449,18 +641,33 @@ fn qp_with_totals_and_plot() {
     assert_eq!(
         out(&done),
         "\
-slice place=4 type=I frame=0 qp=26
-refused place=16 number=2 value=0
-slice place=21 type=I frame=0 qp=26
-total type=I slices=2 least=26 mean=26.00 greatest=26
-total type=all slices=2 least=26 mean=26.00 greatest=26
+unit place=4 length=4 slice type=7 family=I frame=0 qp=26
+unit place=16 length=1 refused 2 value=0
+unit place=21 length=4 slice type=7 family=I frame=0 qp=26
+total family=I slices=2 least=26 mean=26.00 greatest=26
+total family=all slices=2 least=26 mean=26.00 greatest=26
 total refused=1
 "
     );
-    let rows = fs::read_to_string(csv).unwrap();
-    assert!(rows.contains("\n4,4,7,0,26,,\n16,1,,,,2,0\n"), "{rows}");
-    let svg = fs::read_to_string(svg).unwrap();
-    assert!(svg.starts_with("<svg") && svg.contains("refused (1)"));
+    let rows = "\
+place,length,answer,refusal,value,why,slice_type,family,frame_num,qp
+4,4,slice,,,,7,I,0,26
+16,1,refused,2,0,the top bit of the unit's first byte is set,,,,
+21,4,slice,,,,7,I,0,26
+";
+    assert_eq!(fs::read_to_string(&csv).unwrap(), rows);
+    let svg = fs::read_to_string(&svg).unwrap();
+    assert!(svg.starts_with("<svg") && svg.contains("refused 1 (2: 1)"));
+
+    // the same on standard output, which then holds nothing else
+    let totals = "total family=I slices=2 least=26 mean=26.00 greatest=26\ntotal family=all slices=2 least=26 mean=26.00 greatest=26\ntotal refused=1\n";
+    for words in [&["--csv", "-"][..], &["--format", "csv"]] {
+        let done = tuz(&[&["qp", "-", "--sample"], words].concat(), &torn);
+        assert_eq!(out(&done), rows);
+        assert!(err(&done).starts_with(totals), "{}", err(&done));
+    }
+    let done = tuz(&["qp", "-", "--sample", "-q", "--plot", "-"], &torn);
+    assert_eq!((out(&done), err(&done)), (svg, String::new()));
 }
 
 #[test]

@@ -24,8 +24,9 @@ fn run(words: &[String]) -> Result<(), Box<dyn error::Error>> {
     let (mut units, mut slices, mut refused) = (0, 0, 0);
     while let Some(report) = stream.next(&table)? {
         units += 1;
-        slices += u64::from(report.read.answer == 1);
-        refused += u64::from(report.read.answer == 3);
+        let answer = report.raw().0.answer;
+        slices += u64::from(answer == 1);
+        refused += u64::from(answer == 3);
     }
     println!("units={units} slices={slices} refused={refused}");
     Ok(())
@@ -38,33 +39,31 @@ fn put(table: &mut Table, word: &str) -> Result<(), Box<dyn error::Error>> {
     let n = |i: usize| numbers.get(i).map_or(0, |n| *n as u32);
     let flag = |i: usize| n(i) != 0;
     if word.starts_with("sps:") {
-        let set = Sequence {
-            chroma_format_idc: n(1),
-            separate_colour_plane_flag: flag(2),
-            bit_depth_luma_minus8: n(3),
-            log2_max_frame_num: n(4),
-            pic_order_cnt_type: n(5),
-            log2_max_pic_order_cnt_lsb_minus4: n(6),
-            delta_pic_order_always_zero_flag: flag(7),
-            frame_mbs_only_flag: flag(8),
-            pic_size_in_map_units: n(9),
-        };
+        let mut set = Sequence::default();
+        set.chroma_format_idc = n(1);
+        set.separate_colour_plane_flag = flag(2);
+        set.bit_depth_luma_minus8 = n(3);
+        set.log2_max_frame_num = n(4);
+        set.pic_order_cnt_type = n(5);
+        set.log2_max_pic_order_cnt_lsb_minus4 = n(6);
+        set.delta_pic_order_always_zero_flag = flag(7);
+        set.frame_mbs_only_flag = flag(8);
+        set.pic_size_in_map_units = n(9);
         table.put_sequence(n(0), set)?;
     } else {
-        let set = Picture {
-            seq_parameter_set_id: n(1),
-            entropy_coding_mode_flag: flag(2),
-            bottom_field_pic_order_in_frame_present_flag: flag(3),
-            num_ref_idx_l0_default_active_minus1: n(4),
-            num_ref_idx_l1_default_active_minus1: n(5),
-            weighted_pred_flag: flag(6),
-            weighted_bipred_idc: n(7),
-            pic_init_qp_minus26: n(8) as i32,
-            pic_init_qs_minus26: n(9) as i32,
-            deblocking_filter_control_present_flag: flag(10),
-            redundant_pic_cnt_present_flag: flag(11),
-            slice_group_change_rate: n(12),
-        };
+        let mut set = Picture::default();
+        set.seq_parameter_set_id = n(1);
+        set.entropy_coding_mode_flag = flag(2);
+        set.bottom_field_pic_order_in_frame_present_flag = flag(3);
+        set.num_ref_idx_l0_default_active_minus1 = n(4);
+        set.num_ref_idx_l1_default_active_minus1 = n(5);
+        set.weighted_pred_flag = flag(6);
+        set.weighted_bipred_idc = n(7);
+        set.pic_init_qp_minus26 = n(8) as i32;
+        set.pic_init_qs_minus26 = n(9) as i32;
+        set.deblocking_filter_control_present_flag = flag(10);
+        set.redundant_pic_cnt_present_flag = flag(11);
+        set.slice_group_change_rate = n(12);
         table.put_picture(n(0), set)?;
     }
     Ok(())

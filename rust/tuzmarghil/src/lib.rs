@@ -8,9 +8,16 @@
 //! use tuzmarghil::{read_unit, Picture, Sequence, SliceFamily, Table, Unit};
 //!
 //! // what the slices need to know of their parameter sets
+//! let (mut sequence, mut picture) = (Sequence::default(), Picture::default());
+//! sequence.chroma_format_idc = 1;
+//! sequence.log2_max_frame_num = 4;
+//! sequence.pic_order_cnt_type = 2;
+//! sequence.frame_mbs_only_flag = true;
+//! sequence.pic_size_in_map_units = 99;
+//! picture.pic_init_qp_minus26 = 4;
 //! let mut table = Table::new();
-//! table.put_sequence(0, Sequence { log2_max_frame_num: 4, pic_order_cnt_type: 2, frame_mbs_only_flag: true, chroma_format_idc: 1, pic_size_in_map_units: 99, ..Sequence::default() })?;
-//! table.put_picture(0, Picture::default())?;
+//! table.put_sequence(0, sequence)?;
+//! table.put_picture(0, picture)?;
 //!
 //! let mut scratch = Vec::new();
 //! let slice = match read_unit(&table, &[0x65, 0x88, 0x84, 0xA0], &mut scratch)? {
@@ -19,7 +26,7 @@
 //! };
 //! assert_eq!(slice.header.slice_type.family, SliceFamily::I);
 //! assert_eq!(slice.header.frame_num, 0);
-//! assert_eq!(slice.header.slice_qp(&Picture::default()), 26);
+//! assert_eq!(slice.qp(&table), Some(30));
 //!
 //! // a torn unit is refused, with document 01's number and a reason to read
 //! let torn = read_unit(&table, &[0x65, 0x88], &mut scratch).unwrap_err();
@@ -31,8 +38,12 @@
 
 mod nal;
 mod prefix;
+#[doc(hidden)]
+#[allow(rustdoc::broken_intra_doc_links)] // the records' comments speak of bits
 pub mod raw;
 mod refusal;
+#[cfg(feature = "serde")]
+mod serial;
 mod slice;
 mod stream;
 mod table;
@@ -46,7 +57,6 @@ pub use nal::{
     NalHeader, NalHeaderExtension, NalHeaderMvcExtension, NalHeaderSvcExtension, UnitType,
 };
 pub use prefix::{DecRefBasePicMarking, DecRefBasePicMarkingOp, PrefixNalUnit, PrefixNalUnitRef};
-pub use raw::{Picture, Sequence};
 pub use refusal::Refusal;
 pub use slice::{
     ColourPlane, DecRefPicMarking, Field, FieldPic, MemoryManagementControlOperation,
@@ -54,10 +64,21 @@ pub use slice::{
     RefPicListModifications, SliceExclusive, SliceFamily, SliceHeader, SliceType,
 };
 pub use stream::{Stream, StreamReport};
-pub use table::Table;
-pub use unit::{read_unit, read_unit_raw, Slice, Unit};
+pub use table::{Picture, Sequence, Table};
+pub use unit::{read_unit, Reading, Slice, Unit, UnitReader};
 pub use walk::{reports, Report, Reports};
 pub use write::write_header;
+
+#[cfg(doctest)]
+#[doc = include_str!("../README.md")]
+struct Readme;
+
+#[cfg(doctest)]
+#[doc = include_str!("../../../docs/MIGRATION.md")]
+struct Migration;
+
+/// The number of the layout in which records and words cross the boundary to the proved library; `include/tuzmarghil.h` has the same.
+pub const LAYOUT: u32 = 1;
 
 /// The greatest length of a unit or a recording that one call takes, in bytes; beyond it the answer is refusal 27.
 pub const LIMIT: usize = 268_435_456;

@@ -5,6 +5,8 @@ use crate::{NalHeader, NalHeaderExtension};
 
 /// A prefix unit.
 #[derive(Clone, Debug, PartialEq, Eq)]
+#[cfg_attr(feature = "serde", derive(serde::Serialize))]
+#[non_exhaustive]
 pub struct PrefixNalUnit {
     /// The unit's first byte.
     pub nal_header: NalHeader,
@@ -16,6 +18,8 @@ pub struct PrefixNalUnit {
 
 /// `prefix_nal_unit_svc( )`
 #[derive(Clone, Debug, PartialEq, Eq)]
+#[cfg_attr(feature = "serde", derive(serde::Serialize))]
+#[non_exhaustive]
 pub struct PrefixNalUnitRef {
     /// `store_ref_base_pic_flag`
     pub store_ref_base_pic_flag: bool,
@@ -27,6 +31,8 @@ pub struct PrefixNalUnitRef {
 
 /// `dec_ref_base_pic_marking( )`
 #[derive(Clone, Debug, PartialEq, Eq)]
+#[cfg_attr(feature = "serde", derive(serde::Serialize))]
+#[non_exhaustive]
 pub struct DecRefBasePicMarking {
     /// The operations in order, the closing 0 left out.
     pub operations: Vec<DecRefBasePicMarkingOp>,
@@ -34,6 +40,8 @@ pub struct DecRefBasePicMarking {
 
 /// A `memory_management_base_control_operation`, 1 or 2.
 #[derive(Clone, Debug, PartialEq, Eq)]
+#[cfg_attr(feature = "serde", derive(serde::Serialize))]
+#[non_exhaustive]
 #[allow(missing_docs)]
 pub enum DecRefBasePicMarkingOp {
     ShortTermUnusedForRef {

@@ -4,6 +4,8 @@ use std::fmt;
 
 /// A refusal: document 01's number, and its value.
 #[derive(Clone, Copy, Debug, PartialEq, Eq)]
+#[cfg_attr(feature = "serde", derive(serde::Serialize))]
+#[non_exhaustive]
 pub struct Refusal {
     /// Document 01's number, 1 to 27.
     pub number: u32,
@@ -11,11 +13,32 @@ pub struct Refusal {
     pub value: i64,
 }
 
+impl Refusal {
+    /// A refusal with document 01's number and value.
+    pub fn new(number: u32, value: i64) -> Refusal {
+        Refusal { number, value }
+    }
+
+    /// Why, in words.
+    pub fn reason(&self) -> String {
+        Reason(self).to_string()
+    }
+}
+
 impl fmt::Display for Refusal {
     fn fmt(&self, f: &mut fmt::Formatter<'_>) -> fmt::Result {
-        let value = self.value;
-        write!(f, "refused {}: ", self.number)?;
-        match self.number {
+        write!(f, "refused {}: {}", self.number, Reason(self))
+    }
+}
+
+impl std::error::Error for Refusal {}
+
+struct Reason<'a>(&'a Refusal);
+
+impl fmt::Display for Reason<'_> {
+    fn fmt(&self, f: &mut fmt::Formatter<'_>) -> fmt::Result {
+        let value = self.0.value;
+        match self.0.number {
             1 => write!(f, "the unit has no byte"),
             2 => write!(f, "the top bit of the unit's first byte is set"),
             3 => write!(
@@ -62,5 +85,3 @@ impl fmt::Display for Refusal {
         }
     }
 }
-
-impl std::error::Error for Refusal {}

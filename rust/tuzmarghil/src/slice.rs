@@ -1,11 +1,11 @@
 //! The slice header, with Rust's types.
 
 use crate::raw;
-use crate::raw::{
-    HeaderShort, List, MarkedFlag, MarkedNumber, MarkedSigned, Picture, Weights, Words,
-};
+use crate::raw::{HeaderShort, List, MarkedFlag, MarkedNumber, MarkedSigned, Weights, Words};
+use crate::Picture;
 
 #[derive(Debug, Clone, Copy, PartialEq, Eq)]
+#[cfg_attr(feature = "serde", derive(serde::Serialize))]
 #[allow(missing_docs)]
 pub enum SliceFamily {
     P,
@@ -17,6 +17,7 @@ pub enum SliceFamily {
 
 /// Whether all slices of the picture have this type.
 #[derive(Debug, Clone, Copy, PartialEq, Eq)]
+#[cfg_attr(feature = "serde", derive(serde::Serialize))]
 #[allow(missing_docs)]
 pub enum SliceExclusive {
     Exclusive,
@@ -25,6 +26,7 @@ pub enum SliceExclusive {
 
 /// `slice_type`
 #[derive(Debug, Clone, Copy, PartialEq, Eq)]
+#[cfg_attr(feature = "serde", derive(serde::Serialize))]
 #[allow(missing_docs)]
 pub struct SliceType {
     pub family: SliceFamily,
@@ -61,6 +63,7 @@ impl SliceType {
 
 /// `colour_plane_id`
 #[derive(Debug, Clone, Copy, PartialEq, Eq)]
+#[cfg_attr(feature = "serde", derive(serde::Serialize))]
 #[allow(missing_docs)]
 pub enum ColourPlane {
     Y,
@@ -70,6 +73,7 @@ pub enum ColourPlane {
 
 /// `bottom_field_flag`
 #[derive(Debug, Clone, Copy, PartialEq, Eq)]
+#[cfg_attr(feature = "serde", derive(serde::Serialize))]
 #[allow(missing_docs)]
 pub enum Field {
     Top,
@@ -78,6 +82,7 @@ pub enum Field {
 
 /// `field_pic_flag`
 #[derive(Debug, Clone, Copy, PartialEq, Eq)]
+#[cfg_attr(feature = "serde", derive(serde::Serialize))]
 #[allow(missing_docs)]
 pub enum FieldPic {
     Frame,
@@ -86,6 +91,7 @@ pub enum FieldPic {
 
 /// The order count, by the sequence set's `pic_order_cnt_type`: 0 is the first two, 1 the third.
 #[derive(Debug, Clone, Copy, PartialEq, Eq)]
+#[cfg_attr(feature = "serde", derive(serde::Serialize))]
 #[allow(missing_docs)]
 pub enum PicOrderCountLsb {
     Frame(u32),
@@ -98,6 +104,7 @@ pub enum PicOrderCountLsb {
 
 /// The active reference counts, where the slice overrides the picture set's.
 #[derive(Debug, Clone, Copy, PartialEq, Eq)]
+#[cfg_attr(feature = "serde", derive(serde::Serialize))]
 #[allow(missing_docs)]
 pub enum NumRefIdxActive {
     P {
@@ -111,6 +118,7 @@ pub enum NumRefIdxActive {
 
 /// `modification_of_pic_nums_idc` 0, 1, 2, 4 and 5, with the operand.
 #[derive(Debug, Clone, Copy, PartialEq, Eq)]
+#[cfg_attr(feature = "serde", derive(serde::Serialize))]
 #[allow(missing_docs)]
 pub enum ModificationOfPicNums {
     Subtract(u32),
@@ -122,6 +130,7 @@ pub enum ModificationOfPicNums {
 
 /// `ref_pic_list_modification( )`. A list is `None` where its flag is clear: a flagged list can be empty.
 #[derive(Debug, Clone, PartialEq, Eq)]
+#[cfg_attr(feature = "serde", derive(serde::Serialize))]
 #[allow(missing_docs)]
 pub enum RefPicListModifications {
     I,
@@ -135,6 +144,7 @@ pub enum RefPicListModifications {
 }
 
 #[derive(Debug, Clone, Copy, PartialEq, Eq)]
+#[cfg_attr(feature = "serde", derive(serde::Serialize))]
 #[allow(missing_docs)]
 pub struct PredWeight {
     pub weight: i32,
@@ -144,6 +154,7 @@ pub struct PredWeight {
 /// `pred_weight_table( )`. The lists have an entry for each active reference. A chroma entry holds Cb and Cr, or nothing where its flag is clear; without chroma
 /// parts the chroma lists are empty.
 #[derive(Debug, Clone, PartialEq, Eq)]
+#[cfg_attr(feature = "serde", derive(serde::Serialize))]
 #[allow(missing_docs)]
 pub struct PredWeightTable {
     pub luma_log2_weight_denom: u32,
@@ -156,6 +167,7 @@ pub struct PredWeightTable {
 
 /// `memory_management_control_operation` 1 to 6.
 #[derive(Debug, Clone, Copy, PartialEq, Eq)]
+#[cfg_attr(feature = "serde", derive(serde::Serialize))]
 #[allow(missing_docs)]
 pub enum MemoryManagementControlOperation {
     ShortTermUnusedForRef {
@@ -179,6 +191,7 @@ pub enum MemoryManagementControlOperation {
 
 /// `dec_ref_pic_marking( )`
 #[derive(Debug, Clone, PartialEq, Eq)]
+#[cfg_attr(feature = "serde", derive(serde::Serialize))]
 #[allow(missing_docs)]
 pub enum DecRefPicMarking {
     Idr {
@@ -191,6 +204,7 @@ pub enum DecRefPicMarking {
 
 /// The slice header (7.3.3), under `h264-reader`'s names. Beside them stand the ids of the two sets.
 #[derive(Debug, Clone, PartialEq, Eq)]
+#[cfg_attr(feature = "serde", derive(serde::Serialize))]
 #[allow(missing_docs)]
 pub struct SliceHeader {
     pub first_mb_in_slice: u32,

@@ -1,41 +1,57 @@
 //! Recordings of any length, in bounded memory.
 //!
-//! The proved walk takes recordings of at most [`LIMIT`] bytes. A longer one is cut at start codes into windows: a window ends right before the last start code
-//! that lies whole in the buffer. Nothing is lost by that. Every start code begins a unit and ends the one before it; where the cut takes away a unit's end mark
-//! (`00 00 00` or `00 00 01`), what is left of it are zero bytes, which the walk drops at a recording's end.
+//! The proved walk takes recordings of at most [`LIMIT`] bytes. A longer one, or one that is still arriving, is cut into windows: a window ends right before the
+//! last mark (`00 00 00` or `00 00 01`) that has come. Nothing is lost by that. A start code never begins before a mark and reaches into it; and where the cut takes
+//! away a unit's end mark, what is left of it are zero bytes, which the walk drops at a recording's end.
 
 use crate::raw::{self, ReadOut, WalkOut, Words};
-use crate::{Table, LIMIT};
+use crate::{Reading, Refusal, Table, Unit, LIMIT};
 use std::io::{self, Read};
 
-/// A unit of a stream. `bytes` are the unit's, and empty where it is over [`LIMIT`].
+/// A unit of a stream.
 pub struct StreamReport<'a> {
     /// Where the unit begins, after its start code.
     pub place: u64,
     /// How many bytes it has.
     pub length: u64,
-    /// The unit's bytes.
-    pub bytes: &'a [u8],
-    /// The answer as the proved library gives it: [`crate::Unit::from_raw`] gives it Rust's types.
-    pub read: &'a ReadOut,
-    /// The words that go with it.
-    pub words: &'a Words,
+    reading: Reading<'a>,
+}
+
+impl<'a> StreamReport<'a> {
+    /// The unit's bytes; none where it is over [`LIMIT`].
+    pub fn bytes(&self) -> &'a [u8] {
+        self.reading.bytes()
+    }
+
+    /// What it holds, or why it is refused.
+    pub fn unit(&self) -> Result<Unit, Refusal> {
+        self.reading.unit()
+    }
+
+    #[doc(hidden)]
+    pub fn raw(&self) -> (&'a ReadOut, &'a Words) {
+        self.reading.raw()
+    }
 }
 
 /// A recording that is read piece by piece.
 ///
 /// ```
-/// use tuzmarghil::{Stream, Table};
+/// use tuzmarghil::{Stream, Table, Unit, UnitType};
 ///
 /// let recording: &[u8] = &[0, 0, 0, 1, 0xE5, 0x88, 0, 0, 1, 0x09, 0xF0];
-/// let (table, mut places) = (Table::new(), vec![]);
+/// let (table, mut found) = (Table::new(), vec![]);
 /// let mut stream = Stream::new(recording);
 /// while let Some(report) = stream.next(&table)? {
-///     places.push((report.place, report.length));
+///     found.push((report.place, report.length, report.unit()));
 /// }
-/// assert_eq!(places, [(4, 2), (9, 2)]);
+/// assert_eq!((found[0].0, found[0].1), (4, 2));
+/// assert_eq!(found[0].2.as_ref().unwrap_err().number, 2);
+/// assert_eq!(found[1], (9, 2, Ok(Unit::Other(UnitType::AccessUnitDelimiter))));
 /// # Ok::<(), std::io::Error>(())
 /// ```
+///
+/// An error of the source loses nothing: where it may be tried again, the next call goes on where this one stood.
 pub struct Stream<R> {
     source: R,
     ended: bool,
@@ -48,9 +64,28 @@ pub struct Stream<R> {
     /// The window is the buffer up to here, walked up to `at`.
     window: usize,
     at: usize,
+    /// No mark begins before here, but at the buffer's front.
+    searched: usize,
+    /// A unit over the limit whose end has not come.
+    long: Option<Long>,
     scratch: Vec<u8>,
     words: Box<Words>,
     out: WalkOut,
+}
+
+/// A unit over the limit: its place, and its end as far as it is seen, past its last byte that is not zero.
+#[derive(Clone, Copy)]
+struct Long {
+    place: u64,
+    end: u64,
+}
+
+/// What the bytes at hand come to.
+enum Found {
+    /// A unit that lies in the buffer.
+    Unit { from: usize, to: usize },
+    /// A unit over the limit.
+    TooLong { place: u64, length: u64 },
 }
 
 /// How much is read at a time; the buffer grows where a unit is longer.
@@ -72,162 +107,196 @@ impl<R: Read> Stream<R> {
             base: 0,
             window: 0,
             at: 0,
+            searched: 1,
+            long: None,
             scratch: Vec::new(),
             words: Box::default(),
             out: WalkOut::default(),
         }
     }
 
-    /// How far the recording is read.
+    /// How far the recording is read; at its end, its length.
     pub fn position(&self) -> u64 {
         self.base + self.at as u64
     }
 
-    /// The next unit, by the sets of a table; nothing at the end.
+    /// The next unit, by the sets of a table; nothing at the end. A unit is there as soon as its end mark has come.
     pub fn next(&mut self, table: &Table) -> io::Result<Option<StreamReport<'_>>> {
+        loop {
+            if let Some(found) = self.find(table) {
+                return Ok(Some(self.report(found)));
+            }
+            if !self.read_more()? {
+                return Ok(None);
+            }
+        }
+    }
+
+    /// The next unit that has come whole; nothing where [`Stream::read_more`] must be asked first.
+    pub fn next_at_hand(&mut self, table: &Table) -> Option<StreamReport<'_>> {
+        let found = self.find(table)?;
+        Some(self.report(found))
+    }
+
+    /// Reads from the source once; false where all has been read before.
+    pub fn read_more(&mut self) -> io::Result<bool> {
+        if self.ended {
+            return Ok(false);
+        }
+        if self.filled == self.buffer.len() {
+            let more = (self.buffer.len() * 2).min(self.limit + 6);
+            lengthen(&mut self.buffer, more);
+        }
+        let room = &mut self.buffer[self.filled..];
+        if room.is_empty() {
+            // what is at hand was not asked for
+            return Ok(true);
+        }
+        loop {
+            match self.source.read(room) {
+                Ok(0) => self.ended = true,
+                Ok(n) => self.filled += n,
+                Err(e) if e.kind() == io::ErrorKind::Interrupted => continue,
+                Err(e) => return Err(e),
+            }
+            return Ok(true);
+        }
+    }
+
+    fn find(&mut self, table: &Table) -> Option<Found> {
         loop {
             if self.at < self.window {
                 let window = &self.buffer[..self.window];
                 let (scratch, words, out) = (&mut self.scratch, &mut self.words, &mut self.out);
                 raw::walk(table.as_raw(), window, self.at, scratch, words, out);
-                if out.step != 1 {
-                    self.at = self.window;
-                    continue;
+                if out.step == 1 {
+                    self.at = out.next;
+                    let (from, to) = (out.place, out.place + out.length);
+                    return Some(Found::Unit { from, to });
                 }
-                self.at = out.next;
-                let (from, to) = (out.place, out.place + out.length);
-                return Ok(Some(self.report(from, to)));
-            }
-            if self.ended && self.window == self.filled {
-                return Ok(None);
+                self.at = self.window;
             }
             self.discard(self.window);
-            if !self.fill_window()? {
-                match self.long_unit()? {
-                    None => continue,
-                    Some((place, length)) if length > self.limit as u64 => {
-                        return Ok(Some(self.too_long(place, length)));
-                    }
-                    Some((_, length)) => {
-                        let (from, to) = (3, 3 + length as usize);
-                        lengthen(&mut self.scratch, to);
-                        let bytes = &self.buffer[from..to];
-                        let (words, read) = (&mut self.words, &mut self.out.read);
-                        raw::read_unit(table.as_raw(), bytes, &mut self.scratch, words, read);
-                        return Ok(Some(self.report(from, to)));
-                    }
-                }
+            if self.long.is_some() {
+                return self.long_end();
+            }
+            if self.cut() {
+                continue;
+            }
+            if self.buffer[..self.filled].starts_with(&[0, 0, 1]) {
+                return self.wide_unit(table);
+            }
+            // these bytes are in no unit, but that a start code may begin in the last two
+            let whole = self.whole();
+            let all = self.ended && whole == self.filled;
+            self.discard(whole - if all { 0 } else { whole.min(2) });
+            if whole < self.limit + 3 {
+                return None;
             }
         }
     }
 
-    fn report(&self, from: usize, to: usize) -> StreamReport<'_> {
+    fn report(&mut self, found: Found) -> StreamReport<'_> {
+        let (place, length, bytes) = match found {
+            Found::Unit { from, to } => {
+                let place = self.base + from as u64;
+                (place, (to - from) as u64, &self.buffer[from..to])
+            }
+            Found::TooLong { place, length } => {
+                self.out.read = ReadOut::default();
+                (self.out.read.answer, self.out.read.number) = (3, 27);
+                *self.words = Words::default();
+                (place, length, &[][..])
+            }
+        };
         StreamReport {
-            place: self.base + from as u64,
-            length: (to - from) as u64,
-            bytes: &self.buffer[from..to],
-            read: &self.out.read,
-            words: &self.words,
+            place,
+            length,
+            reading: Reading::new(bytes, &self.out.read, &self.words, &self.scratch),
         }
     }
 
     /// Drops the buffer's first bytes; the window is then empty.
     fn discard(&mut self, n: usize) {
-        self.buffer.copy_within(n..self.filled, 0);
-        self.base += n as u64;
-        self.filled -= n;
+        if n > 0 {
+            self.buffer.copy_within(n..self.filled, 0);
+            self.base += n as u64;
+            self.filled -= n;
+            self.searched = 1;
+        }
         (self.window, self.at) = (0, 0);
     }
 
-    /// Reads until the buffer is full or the recording ends.
-    fn fill(&mut self) -> io::Result<()> {
-        while !self.ended && self.filled < self.buffer.len() {
-            match self.source.read(&mut self.buffer[self.filled..]) {
-                Ok(0) => self.ended = true,
-                Ok(n) => self.filled += n,
-                Err(e) if e.kind() == io::ErrorKind::Interrupted => {}
-                Err(e) => return Err(e),
+    /// Sets the window: all that is left, or up to the last mark that is not at the front. False where neither is within the limit.
+    fn cut(&mut self) -> bool {
+        if self.ended && self.filled <= self.limit {
+            self.window = self.filled;
+        } else {
+            let whole = self.whole();
+            match last_mark(&self.buffer[..whole], self.searched) {
+                Some(last) => self.window = last,
+                None => self.searched = self.searched.max(whole.saturating_sub(2)),
             }
-        }
-        Ok(())
-    }
-
-    /// Sets the window: all that is left, or up to the last start code that is not at the front. False where neither is within the limit.
-    fn fill_window(&mut self) -> io::Result<bool> {
-        loop {
-            self.fill()?;
-            if self.ended && self.filled <= self.limit {
-                self.window = self.filled;
-                break;
-            }
-            let whole = self.filled.min(self.limit + 3);
-            if let Some(last) = last_start_code(&self.buffer[..whole]) {
-                self.window = last;
-                break;
-            }
-            if self.ended || self.buffer.len() == self.limit + 6 {
-                return Ok(false);
-            }
-            let more = (self.buffer.len() * 2).min(self.limit + 6);
-            lengthen(&mut self.buffer, more);
         }
         lengthen(&mut self.scratch, self.window);
-        Ok(true)
+        self.window > 0
     }
 
-    /// Where no window is within the limit: the unit at the buffer's front, by place and length; up to the limit its bytes are in the buffer. Nothing where no unit
-    /// begins there. The window is set to what is then done with.
-    fn long_unit(&mut self) -> io::Result<Option<(u64, u64)>> {
-        let all = &self.buffer[..self.filled];
-        if !all.starts_with(&[0, 0, 1]) {
-            let rest = if self.ended { 0 } else { 2 };
-            self.done(mark(all, 1).unwrap_or(self.filled.saturating_sub(rest)));
-            return Ok(None);
-        }
-        let place = self.base + 3;
-        if let Some(end) = mark(&all[3..], 0) {
-            self.done(3 + end);
-            return Ok(Some((place, end as u64)));
-        }
-        // the unit's end as far as it is seen: past its last byte that is not zero
-        let mut end = place;
-        while !self.ended {
-            end = end.max(self.last_byte());
-            self.discard(self.filled.saturating_sub(2));
-            self.fill()?;
-            if let Some(found) = mark(&self.buffer[..self.filled], 0) {
-                self.done(found);
-                return Ok(Some((place, self.base + found as u64 - place)));
+    /// How many bytes are at hand, as far as a window can end in them.
+    fn whole(&self) -> usize {
+        self.filled.min(self.limit + 3)
+    }
+
+    /// The unit at the front, where no window ends behind it: with its start code it is over the limit, or its end has not come.
+    fn wide_unit(&mut self, table: &Table) -> Option<Found> {
+        let from = self.searched.max(3);
+        let end = mark(&self.buffer[from..self.filled]).map(|end| end + from);
+        if end.is_none() && !self.ended {
+            if self.filled < self.limit + 6 {
+                return None;
             }
+            let (place, end) = (self.base + 3, self.last_byte());
+            self.long = Some(Long { place, end });
+            self.discard(self.filled - 2);
+            return None;
         }
-        end = end.max(self.last_byte());
-        self.done(self.filled);
-        Ok(Some((place, end - place)))
+        let to = end.unwrap_or_else(|| (self.last_byte() - self.base) as usize);
+        let done = end.unwrap_or(self.filled);
+        (self.window, self.at) = (done, done);
+        if to > 3 + self.limit {
+            let (place, length) = (self.base + 3, to as u64 - 3);
+            return Some(Found::TooLong { place, length });
+        }
+        lengthen(&mut self.scratch, to);
+        let (words, read) = (&mut self.words, &mut self.out.read);
+        let bytes = &self.buffer[3..to];
+        raw::read_unit(table.as_raw(), bytes, &mut self.scratch, words, read);
+        Some(Found::Unit { from: 3, to })
     }
 
-    /// The place after the buffer's last byte that is not zero, or 0.
+    /// The unit over the limit whose bytes are being passed over, where its end has come.
+    fn long_end(&mut self) -> Option<Found> {
+        let long = self.long?;
+        let seen = long.end.max(self.last_byte());
+        let (end, done) = match mark(&self.buffer[..self.filled]) {
+            Some(found) => (self.base + found as u64, found),
+            None if self.ended => (seen, self.filled),
+            None => {
+                self.long = Some(Long { end: seen, ..long });
+                self.discard(self.filled.saturating_sub(2));
+                return None;
+            }
+        };
+        self.long = None;
+        (self.window, self.at) = (done, done);
+        let (place, length) = (long.place, end - long.place);
+        Some(Found::TooLong { place, length })
+    }
+
+    /// The place after the buffer's last byte that is not zero; 0 where there is none.
     fn last_byte(&self) -> u64 {
         let last = self.buffer[..self.filled].iter().rposition(|b| *b != 0);
         last.map_or(0, |i| self.base + i as u64 + 1)
-    }
-
-    /// Nothing is left to walk before here.
-    fn done(&mut self, to: usize) {
-        (self.window, self.at) = (to, to);
-    }
-
-    /// Refusal 27.
-    fn too_long(&mut self, place: u64, length: u64) -> StreamReport<'_> {
-        self.out.read = ReadOut::default();
-        (self.out.read.answer, self.out.read.number) = (3, 27);
-        *self.words = Words::default();
-        StreamReport {
-            place,
-            length,
-            bytes: &[],
-            read: &self.out.read,
-            words: &self.words,
-        }
     }
 }
 
@@ -239,25 +308,31 @@ fn lengthen(bytes: &mut Vec<u8>, length: usize) {
     }
 }
 
-/// The first place of two zeros and a byte from `least` to 1: a start code with 1, an end mark with 0.
-pub(crate) fn mark(s: &[u8], least: u8) -> Option<usize> {
+/// The first place of a mark: two zeros and a byte up to 1.
+fn mark(s: &[u8]) -> Option<usize> {
     let mut i = 0;
     while i + 2 < s.len() {
-        if s[i + 2] > 1 {
-            i += 3;
-        } else if s[i] == 0 && s[i + 1] == 0 && s[i + 2] >= least {
-            return Some(i);
-        } else {
-            i += 1;
+        match &s[i..i + 3] {
+            [0, 0, 0 | 1] => return Some(i),
+            // a byte over 1 is in no mark
+            [.., 2..=255] => i += 3,
+            _ => i += 1,
         }
     }
     None
 }
 
-/// The last start code that is not at the front.
-fn last_start_code(s: &[u8]) -> Option<usize> {
-    let found = s.get(1..)?.windows(3).rposition(|w| w == [0, 0, 1]);
-    found.map(|i| i + 1)
+/// The last one, from `from` on.
+fn last_mark(s: &[u8], from: usize) -> Option<usize> {
+    let mut end = s.len();
+    while end >= from + 3 {
+        match &s[end - 3..end] {
+            [0, 0, 0 | 1] => return Some(end - 3),
+            [2..=255, ..] => end -= 3,
+            _ => end -= 1,
+        }
+    }
+    None
 }
 
 #[cfg(test)]
@@ -280,15 +355,43 @@ mod tests {
         found
     }
 
-    /// A source that gives few bytes at a time.
-    struct Drops<'a>(&'a [u8], usize);
+    fn random(seed: u64) -> impl FnMut(usize) -> usize {
+        let mut x = seed;
+        move |n: usize| {
+            x ^= x << 13;
+            x ^= x >> 7;
+            x ^= x << 17;
+            (x >> 11) as usize % n
+        }
+    }
+
+    /// A source that gives few bytes at a time, and fails before every so many reads.
+    struct Drops<'a> {
+        bytes: &'a [u8],
+        most: usize,
+        fails: usize,
+        reads: usize,
+    }
 
     impl Read for Drops<'_> {
         fn read(&mut self, to: &mut [u8]) -> io::Result<usize> {
-            let n = self.1.min(to.len()).min(self.0.len());
-            to[..n].copy_from_slice(&self.0[..n]);
-            self.0 = &self.0[n..];
+            self.reads += 1;
+            if self.fails > 0 && self.reads % self.fails == 0 {
+                return Err(io::ErrorKind::WouldBlock.into());
+            }
+            let n = self.most.min(to.len()).min(self.bytes.len());
+            to[..n].copy_from_slice(&self.bytes[..n]);
+            self.bytes = &self.bytes[n..];
             Ok(n)
+        }
+    }
+
+    fn drops(bytes: &[u8], most: usize, fails: usize) -> Drops<'_> {
+        Drops {
+            bytes,
+            most,
+            fails,
+            reads: 0,
         }
     }
 
@@ -300,23 +403,21 @@ mod tests {
         let mut stream = Stream::with(&s[..], 12, 20);
         let table = Table::new();
         let prefix = stream.next(&table).unwrap().unwrap();
-        let told = (prefix.read.answer, prefix.read.prefix.base_markings);
-        assert_eq!((told, prefix.words.base[0]), ((2, 1), 1));
+        let (read, words) = prefix.raw();
+        let told = (read.answer, read.prefix.base_markings);
+        assert_eq!((told, words.base[0]), ((2, 1), 1));
         let long = stream.next(&table).unwrap().unwrap();
-        assert_eq!((long.length, long.read.number), (30, 27));
-        assert_eq!(long.read.prefix, ReadOut::default().prefix);
-        assert_eq!(*long.words, Words::default());
+        assert_eq!((long.length, long.bytes()), (30, &[][..]));
+        assert_eq!(long.unit().unwrap_err().number, 27);
+        let (read, words) = long.raw();
+        assert_eq!(read.prefix, ReadOut::default().prefix);
+        assert_eq!(*words, Words::default());
     }
 
+    /// Whatever the pieces, the limit, and errors between them that may be tried again.
     #[test]
     fn windows_lose_nothing() {
-        let mut x = 88172645463325252u64;
-        let mut random = move |n: usize| {
-            x ^= x << 13;
-            x ^= x >> 7;
-            x ^= x << 17;
-            (x >> 11) as usize % n
-        };
+        let mut random = random(88172645463325252);
         let table = Table::new();
         for round in 0..60_000 {
             let length = random(60);
@@ -324,23 +425,63 @@ mod tests {
                 .map(|_| [0, 0, 0, 1, 3, 0x65][random(6)])
                 .collect();
             let limit = 1 + random(20);
-            let mut stream = Stream::with(Drops(&s, 1 + random(9)), 1 + random(12), limit);
+            let source = drops(&s, 1 + random(9), [0, 0, 2, 3, 7][random(5)]);
+            let mut stream = Stream::with(source, 1 + random(12), limit);
             let mut found = vec![];
-            while let Some(r) = stream.next(&table).unwrap() {
+            loop {
+                let r = match stream.next(&table) {
+                    Ok(None) => break,
+                    Ok(Some(r)) => r,
+                    Err(e) => {
+                        assert_eq!(e.kind(), io::ErrorKind::WouldBlock);
+                        continue;
+                    }
+                };
                 let over = r.length > limit as u64;
-                assert_eq!(
-                    over,
-                    r.read.answer == 3 && r.read.number == 27,
-                    "{s:?} {limit}"
-                );
+                let read = r.raw().0;
+                assert_eq!(over, read.answer == 3 && read.number == 27, "{s:?} {limit}");
                 let from = r.place as usize;
-                assert!(
-                    over || r.bytes == &s[from..from + r.length as usize],
-                    "{s:?}"
-                );
+                let bytes = &s[from..from + r.length as usize];
+                assert!(over || r.bytes() == bytes, "{s:?}");
                 found.push((r.place, r.length));
             }
             assert_eq!(found, units(&s), "round {round}: {s:?} limit {limit}");
+            assert_eq!(stream.position(), s.len() as u64);
         }
+    }
+
+    /// A unit is there as soon as its end mark has come, whatever its length.
+    #[test]
+    fn no_unit_waits() {
+        let mut random = random(362436069362436069);
+        let table = Table::new();
+        for _ in 0..5_000 {
+            let s: Vec<u8> = (0..random(60))
+                .map(|_| [0, 0, 0, 1, 3, 0x65][random(6)])
+                .collect();
+            let mut stream = Stream::with(drops(&s, 1, 0), 1 + random(12), 1 + random(20));
+            while let Some(r) = stream.next(&table).unwrap() {
+                let needed = (r.place + r.length + 3).min(s.len() as u64);
+                let given = s.len() - stream.source.bytes.len();
+                // the byte behind a start code shows whether it was one
+                assert!(given as u64 <= needed, "{s:?}");
+            }
+        }
+    }
+
+    /// What is in no unit takes no memory.
+    #[test]
+    fn zeros_take_no_memory() {
+        let zeros = io::repeat(0).take(100_000);
+        let unit: &[u8] = &[0, 0, 1, 0x65];
+        let source = zeros.chain(unit).chain(io::repeat(0).take(100_000));
+        let mut stream = Stream::with(source.chain(unit), 64, 50_000);
+        let table = Table::new();
+        for place in [100_003, 200_007] {
+            let r = stream.next(&table).unwrap().unwrap();
+            assert_eq!((r.place, r.length), (place, 1));
+        }
+        assert!(stream.next(&table).unwrap().is_none());
+        assert_eq!((stream.buffer.len(), stream.position()), (64, 200_008));
     }
 }

@@ -5,6 +5,8 @@ use crate::{NalHeader, NalHeaderExtension, PrefixNalUnit, Refusal, SliceHeader, 
 
 /// What a unit holds.
 #[derive(Clone, Debug, PartialEq, Eq)]
+#[cfg_attr(feature = "serde", derive(serde::Serialize))]
+#[non_exhaustive]
 pub enum Unit {
     /// A slice: types 1, 5, 20 and 21.
     Slice(Box<Slice>),
@@ -16,6 +18,8 @@ pub enum Unit {
 
 /// A slice's headers.
 #[derive(Clone, Debug, PartialEq, Eq)]
+#[cfg_attr(feature = "serde", derive(serde::Serialize))]
+#[non_exhaustive]
 pub struct Slice {
     /// The unit's first byte.
     pub nal_header: NalHeader,
@@ -25,6 +29,33 @@ pub struct Slice {
     pub header: SliceHeader,
     /// The slice header's length in bits, in the unescaped body.
     pub bits: usize,
+}
+
+impl Slice {
+    /// The final QP (SliceQPY): 26 + `pic_init_qp_minus26` + `slice_qp_delta`; nothing where the picture set is not in the table.
+    ///
+    /// ```
+    /// use tuzmarghil::{read_unit, Table, Unit};
+    ///
+    /// let table = Table::sample();
+    /// if let Unit::Slice(slice) = read_unit(&table, &[0x65, 0x88, 0x84, 0xA0], &mut Vec::new())? {
+    ///     assert_eq!(slice.qp(&table), Some(26));
+    ///     assert_eq!(slice.qp(&Table::new()), None);
+    /// }
+    /// # Ok::<(), tuzmarghil::Refusal>(())
+    /// ```
+    pub fn qp(&self, table: &Table) -> Option<i64> {
+        let picture = table.picture(self.header.pic_parameter_set_id)?;
+        let delta = self.header.slice_qp_delta;
+        Some(26 + i64::from(picture.pic_init_qp_minus26) + i64::from(delta))
+    }
+
+    /// The final QS (QSY), of slices of types SP and SI.
+    pub fn qs(&self, table: &Table) -> Option<i64> {
+        let picture = table.picture(self.header.pic_parameter_set_id)?;
+        let delta = self.header.slice_qs_delta?;
+        Some(26 + i64::from(picture.pic_init_qs_minus26) + i64::from(delta))
+    }
 }
 
 /// Reads a unit, from its first byte on and escaped as it stands in the recording, by the sets of a table.
@@ -48,24 +79,71 @@ pub fn read_unit(table: &Table, unit: &[u8], scratch: &mut Vec<u8>) -> Result<Un
         scratch.resize(unit.len(), 0);
     }
     let (mut words, mut out) = (Words::default(), ReadOut::default());
-    read_unit_raw(table, unit, scratch, &mut words, &mut out);
-    Unit::from_raw(unit, &out, &words)
+    raw::read_unit(table.as_raw(), unit, scratch, &mut words, &mut out);
+    Reading::new(unit, &out, &words, scratch).unit()
 }
 
-/// The same, with the answer as the proved library gives it, into words and a record that can be used again. Scratch shorter than the unit is refusal 26.
-pub fn read_unit_raw(
-    table: &Table,
-    unit: &[u8],
-    scratch: &mut [u8],
-    words: &mut Words,
-    out: &mut ReadOut,
-) {
-    raw::read_unit(table.as_raw(), unit, scratch, words, out)
+/// Reads units one after the other into memory that it keeps.
+///
+/// ```
+/// use tuzmarghil::{Table, Unit, UnitReader, UnitType};
+///
+/// let (mut reader, table) = (UnitReader::default(), Table::new());
+/// let unit = reader.read(&table, &[0x09, 0xF0]).unit()?;
+/// assert_eq!(unit, Unit::Other(UnitType::AccessUnitDelimiter));
+/// # Ok::<(), tuzmarghil::Refusal>(())
+/// ```
+#[derive(Default)]
+pub struct UnitReader {
+    scratch: Vec<u8>,
+    words: Box<Words>,
+    out: ReadOut,
 }
 
-impl Unit {
-    /// What an answer for these bytes says, with the words that it left.
-    pub fn from_raw(unit: &[u8], out: &ReadOut, words: &Words) -> Result<Unit, Refusal> {
+impl UnitReader {
+    /// Reads a unit, as [`read_unit`] does.
+    pub fn read<'a>(&'a mut self, table: &Table, unit: &'a [u8]) -> Reading<'a> {
+        if self.scratch.len() < unit.len() {
+            self.scratch.resize(unit.len(), 0);
+        }
+        let (scratch, words, out) = (&mut self.scratch, &mut self.words, &mut self.out);
+        raw::read_unit(table.as_raw(), unit, scratch, words, out);
+        Reading::new(unit, out, words, scratch)
+    }
+}
+
+/// What reading a unit gave. Its parts belong together, so nobody else makes one.
+#[derive(Clone, Copy)]
+pub struct Reading<'a> {
+    bytes: &'a [u8],
+    read: &'a ReadOut,
+    words: &'a Words,
+    scratch: &'a [u8],
+}
+
+impl<'a> Reading<'a> {
+    pub(crate) fn new(
+        bytes: &'a [u8],
+        read: &'a ReadOut,
+        words: &'a Words,
+        scratch: &'a [u8],
+    ) -> Reading<'a> {
+        Reading {
+            bytes,
+            read,
+            words,
+            scratch,
+        }
+    }
+
+    /// The unit's bytes; none where it is over [`crate::LIMIT`].
+    pub fn bytes(&self) -> &'a [u8] {
+        self.bytes
+    }
+
+    /// What the unit holds, or why it is refused.
+    pub fn unit(&self) -> Result<Unit, Refusal> {
+        let (unit, out, words) = (self.bytes, self.read, self.words);
         let first = unit.first().copied().unwrap_or(0);
         match out.answer {
             0 => Ok(Unit::Other(UnitType::for_id(out.number as u8))),
@@ -85,5 +163,17 @@ impl Unit {
                 value: out.value,
             }),
         }
+    }
+
+    /// The answer as the proved library gives it, and the words that go with it.
+    #[doc(hidden)]
+    pub fn raw(&self) -> (&'a ReadOut, &'a Words) {
+        (self.read, self.words)
+    }
+
+    /// The unescaped body, at the front of what was lent for it.
+    #[doc(hidden)]
+    pub fn scratch(&self) -> &'a [u8] {
+        self.scratch
     }
 }

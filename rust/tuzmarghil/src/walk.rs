@@ -1,10 +1,12 @@
 //! The units of a recording.
 
 use crate::raw::{self, WalkOut, Words};
-use crate::{Refusal, Table, Unit, LIMIT};
+use crate::{Reading, Refusal, Table, Unit, LIMIT};
 
 /// A unit of a recording.
 #[derive(Clone, Debug, PartialEq, Eq)]
+#[cfg_attr(feature = "serde", derive(serde::Serialize))]
+#[non_exhaustive]
 pub struct Report {
     /// Where the unit begins, after its start code.
     pub place: usize,
@@ -76,7 +78,7 @@ impl Iterator for Reports<'_> {
         Some(Report {
             place: out.place,
             length: out.length,
-            unit: Unit::from_raw(bytes, &out.read, &self.words),
+            unit: Reading::new(bytes, &out.read, &self.words, &self.scratch).unit(),
         })
     }
 }

@@ -9,11 +9,9 @@ use crate::{NalHeader, NalHeaderExtension, Refusal, SliceHeader, Table};
 /// header. What is written is the unescaped body's beginning.
 ///
 /// ```
-/// use tuzmarghil::{read_unit, write_header, Picture, Sequence, Table, Unit};
+/// use tuzmarghil::{read_unit, write_header, Table, Unit};
 ///
-/// let mut table = Table::new();
-/// table.put_sequence(0, Sequence { log2_max_frame_num: 4, pic_order_cnt_type: 2, frame_mbs_only_flag: true, chroma_format_idc: 1, pic_size_in_map_units: 99, ..Sequence::default() })?;
-/// table.put_picture(0, Picture::default())?;
+/// let table = Table::sample();
 /// let mut slice = match read_unit(&table, &[0x65, 0x88, 0x84, 0xA0], &mut Vec::new())? {
 ///     Unit::Slice(slice) => slice,
 ///     other => panic!("{other:?}"),

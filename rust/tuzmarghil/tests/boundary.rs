@@ -4,35 +4,35 @@ use tuzmarghil::*;
 
 fn sequence(n: u32) -> Sequence {
     let flag = |k: u32| n >> k & 1 == 1;
-    Sequence {
-        chroma_format_idc: 3,
-        separate_colour_plane_flag: flag(0),
-        bit_depth_luma_minus8: 6 - n % 2,
-        log2_max_frame_num: 16 - n % 3,
-        pic_order_cnt_type: n % 3,
-        log2_max_pic_order_cnt_lsb_minus4: 12 - n % 5,
-        delta_pic_order_always_zero_flag: flag(1),
-        frame_mbs_only_flag: flag(2),
-        pic_size_in_map_units: 16_777_216 - n,
-    }
+    let mut set = Sequence::default();
+    set.chroma_format_idc = 3;
+    set.separate_colour_plane_flag = flag(0);
+    set.bit_depth_luma_minus8 = 6 - n % 2;
+    set.log2_max_frame_num = 16 - n % 3;
+    set.pic_order_cnt_type = n % 3;
+    set.log2_max_pic_order_cnt_lsb_minus4 = 12 - n % 5;
+    set.delta_pic_order_always_zero_flag = flag(1);
+    set.frame_mbs_only_flag = flag(2);
+    set.pic_size_in_map_units = 16_777_216 - n;
+    set
 }
 
 fn picture(n: u32) -> Picture {
     let flag = |k: u32| n >> k & 1 == 1;
-    Picture {
-        seq_parameter_set_id: n % 31,
-        entropy_coding_mode_flag: flag(0),
-        bottom_field_pic_order_in_frame_present_flag: flag(1),
-        num_ref_idx_l0_default_active_minus1: 30 - n % 29,
-        num_ref_idx_l1_default_active_minus1: 31 - n % 23,
-        weighted_pred_flag: flag(2),
-        weighted_bipred_idc: n % 3,
-        pic_init_qp_minus26: n as i32 % 88 - 62,
-        pic_init_qs_minus26: n as i32 % 52 - 26,
-        deblocking_filter_control_present_flag: flag(3),
-        redundant_pic_cnt_present_flag: flag(4),
-        slice_group_change_rate: 16_777_216 - n,
-    }
+    let mut set = Picture::default();
+    set.seq_parameter_set_id = n % 31;
+    set.entropy_coding_mode_flag = flag(0);
+    set.bottom_field_pic_order_in_frame_present_flag = flag(1);
+    set.num_ref_idx_l0_default_active_minus1 = 30 - n % 29;
+    set.num_ref_idx_l1_default_active_minus1 = 31 - n % 23;
+    set.weighted_pred_flag = flag(2);
+    set.weighted_bipred_idc = n % 3;
+    set.pic_init_qp_minus26 = n as i32 % 88 - 62;
+    set.pic_init_qs_minus26 = n as i32 % 52 - 26;
+    set.deblocking_filter_control_present_flag = flag(3);
+    set.redundant_pic_cnt_present_flag = flag(4);
+    set.slice_group_change_rate = 16_777_216 - n;
+    set
 }
 
 #[test]
@@ -52,10 +52,7 @@ fn sets_come_back() {
     for id in 0..256 {
         assert_eq!(table.picture(id), Some(picture(id)));
     }
-    let refused = Err(Refusal {
-        number: 24,
-        value: 0,
-    });
+    let refused = Err(Refusal::new(24, 0));
     assert_eq!(table.put_sequence(32, sequence(0)), refused);
     assert_eq!(table.put_picture(256, picture(0)), refused);
     assert_eq!((table.sequence(32), table.picture(256)), (None, None));
@@ -101,23 +98,19 @@ impl Bits {
 /// A B field of type 20, with every list, by sets that ask for every field that a B slice can have: the table, the unit, the header's length in bits, the picture set.
 fn b_field() -> (Table, Vec<u8>, usize, Picture) {
     let mut table = Table::new();
-    let sequence = Sequence {
-        chroma_format_idc: 1,
-        log2_max_frame_num: 9,
-        log2_max_pic_order_cnt_lsb_minus4: 3,
-        pic_size_in_map_units: 100,
-        ..Sequence::default()
-    };
-    let picture = Picture {
-        seq_parameter_set_id: 5,
-        entropy_coding_mode_flag: true,
-        weighted_bipred_idc: 1,
-        pic_init_qp_minus26: -4,
-        deblocking_filter_control_present_flag: true,
-        redundant_pic_cnt_present_flag: true,
-        slice_group_change_rate: 7,
-        ..Picture::default()
-    };
+    let mut sequence = Sequence::default();
+    sequence.chroma_format_idc = 1;
+    sequence.log2_max_frame_num = 9;
+    sequence.log2_max_pic_order_cnt_lsb_minus4 = 3;
+    sequence.pic_size_in_map_units = 100;
+    let mut picture = Picture::default();
+    picture.seq_parameter_set_id = 5;
+    picture.entropy_coding_mode_flag = true;
+    picture.weighted_bipred_idc = 1;
+    picture.pic_init_qp_minus26 = -4;
+    picture.deblocking_filter_control_present_flag = true;
+    picture.redundant_pic_cnt_present_flag = true;
+    picture.slice_group_change_rate = 7;
     table.put_sequence(5, sequence).unwrap();
     table.put_picture(77, picture).unwrap();
 
@@ -279,7 +272,7 @@ fn fields_arrive() {
 
     // and back to the words that the library gave
     let (mut words, mut out) = (raw::Words::default(), raw::ReadOut::default());
-    read_unit_raw(&table, &unit, &mut scratch, &mut words, &mut out);
+    raw::read_unit(table.as_raw(), &unit, &mut scratch, &mut words, &mut out);
     assert_eq!(slice.header.to_words(&table), words);
 }
 
@@ -297,8 +290,11 @@ fn full() -> raw::Words {
     }
 }
 
+/// What a reading does to words.
+type Change = fn(&mut raw::Words);
+
 /// Units of every answer, with the answer and what reading does to words.
-fn answers(slice: &[u8]) -> [(Vec<u8>, u32, fn(&mut raw::Words)); 5] {
+fn answers(slice: &[u8]) -> [(Vec<u8>, u32, Change); 5] {
     let cleared = |words: &mut raw::Words| *words = raw::Words::default();
     let of_prefix = |words: &mut raw::Words| {
         words.base = [0; 198];
@@ -324,7 +320,7 @@ fn words_arrive() {
     for (unit, answer, change) in answers(&slice) {
         let (mut words, mut want) = (full(), full());
         change(&mut want);
-        read_unit_raw(&table, &unit, &mut scratch, &mut words, &mut out);
+        raw::read_unit(table.as_raw(), &unit, &mut scratch, &mut words, &mut out);
         assert_eq!((out.answer, &words), (answer, &want));
         let markings = if answer == 2 { 2 } else { 0 };
         assert_eq!(out.prefix.base_markings, markings);
@@ -360,8 +356,9 @@ fn words_of_a_walk() {
         assert_eq!(reports.next().unwrap().unit, typed);
         let report = stream.next(&table).unwrap().unwrap();
         change(&mut kept);
-        assert_eq!((report.bytes, report.words), (&unit[..], &kept));
-        assert_eq!(*report.read, step.read);
+        let (read, words) = report.raw();
+        assert_eq!((report.bytes(), words), (&unit[..], &kept));
+        assert_eq!((*read, report.unit()), (step.read, typed));
     }
     assert_eq!((walk(&mut step, from), step.step), (full(), 0));
     assert!(reports.next().is_none() && stream.next(&table).unwrap().is_none());
@@ -389,13 +386,15 @@ fn earlier_words_do_not_show() {
     let mut headers = vec![];
     for unit in [b_frame, i_frame, bare_prefix] {
         let (mut kept, mut fresh) = (raw::Words::default(), raw::Words::default());
+        let mut reader = UnitReader::default();
         for before in [&earlier, &prefix_unit()] {
-            read_unit_raw(&table, before, &mut scratch, &mut kept, &mut out);
+            raw::read_unit(table.as_raw(), before, &mut scratch, &mut kept, &mut out);
+            reader.read(&table, before);
         }
-        read_unit_raw(&table, &unit, &mut scratch, &mut kept, &mut out);
-        let told = Unit::from_raw(&unit, &out, &kept);
-        read_unit_raw(&table, &unit, &mut scratch, &mut fresh, &mut out);
-        assert_eq!(told, Unit::from_raw(&unit, &out, &fresh));
+        raw::read_unit(table.as_raw(), &unit, &mut scratch, &mut kept, &mut out);
+        raw::read_unit(table.as_raw(), &unit, &mut scratch, &mut fresh, &mut out);
+        let told = reader.read(&table, &unit).unit();
+        assert_eq!(told, read_unit(&table, &unit, &mut Vec::new()));
         match told {
             Ok(Unit::Slice(slice)) => {
                 fresh.base = kept.base;
@@ -455,4 +454,23 @@ fn prefix_arrives() {
         },
     ];
     assert_eq!(body.dec_ref_base_pic_marking.unwrap().operations, want);
+}
+
+/// The final QP and QS of an edited header, or by another set, wrap nowhere.
+#[test]
+fn sums_do_not_wrap() {
+    let table = Table::sample();
+    let mut slice = match read_unit(&table, &[0x65, 0x88, 0x84, 0xA0], &mut Vec::new()) {
+        Ok(Unit::Slice(slice)) => slice,
+        other => panic!("{other:?}"),
+    };
+    assert_eq!((slice.qp(&table), slice.qs(&table)), (Some(26), None));
+    for delta in [i32::MIN, i32::MAX] {
+        slice.header.slice_qp_delta = delta;
+        slice.header.slice_qs_delta = Some(delta);
+        let sum = Some(26 + i64::from(delta));
+        assert_eq!((slice.qp(&table), slice.qs(&table)), (sum, sum));
+    }
+    slice.header.pic_parameter_set_id = 1;
+    assert_eq!((slice.qp(&table), slice.qs(&table)), (None, None));
 }

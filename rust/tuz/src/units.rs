@@ -1,0 +1,250 @@
+//! `tuz list`, `tuz headers` and `tuz qp`: each unit of a recording, in one of three forms.
+
+use crate::answer::{self, number, Form, Slice, LIST, NAMES, QP};
+use crate::form::{self, Format, Text};
+use crate::input::{Clip, Each};
+use crate::output::{Output, Stdout};
+use crate::plot::Course;
+use crate::totals::{Quantisers, Totals};
+use crate::Ending;
+use anyhow::Result;
+use std::path::Path;
+use tuzmarghil::raw::ReadOut;
+use tuzmarghil::{StreamReport, Table};
+
+/// Which command it is.
+#[derive(Clone, Copy, PartialEq, Eq)]
+pub enum Kind {
+    List,
+    Headers,
+    Qp,
+}
+
+/// What is asked for.
+pub struct Asked<'a> {
+    pub kind: Kind,
+    pub clip: &'a Clip,
+    pub format: Format,
+    pub csv: Option<&'a Path>,
+    pub plot: Option<&'a Path>,
+    pub ending: &'a Ending,
+}
+
+/// Runs it; the exit status.
+pub fn run(asked: &Asked<'_>, out: &mut Stdout) -> Result<u8> {
+    let (clip, ending) = (asked.clip, asked.ending);
+    let table = clip.table()?;
+    let recording = clip.open()?;
+    let mut outputs = Output::open(&clip.inputs(), &[asked.csv, asked.plot])?;
+    let (plot, csv) = (outputs.pop().flatten(), outputs.pop().flatten());
+    let to_stdout = |output: &Option<Output>| output.as_ref().map_or(false, Output::is_stdout);
+    let mut units = Units {
+        asked,
+        table: &table,
+        // standard output holds one thing
+        lines: !to_stdout(&csv) && !to_stdout(&plot),
+        terminal: console::user_attended(),
+        begun: false,
+        line: Vec::new(),
+        totals: Totals::default(),
+        quantisers: Quantisers::default(),
+        course: plot.is_some().then(Course::default),
+        csv,
+        plot,
+        out,
+    };
+    let bytes = recording.units(&table, ending.quiet, &mut units)?;
+    if !units.wanted() {
+        return Ok(0);
+    }
+    units.end(bytes)
+}
+
+struct Units<'a> {
+    asked: &'a Asked<'a>,
+    table: &'a Table,
+    /// Whether units are told on standard output.
+    lines: bool,
+    terminal: bool,
+    begun: bool,
+    line: Vec<u8>,
+    totals: Totals,
+    quantisers: Quantisers,
+    course: Option<Course>,
+    csv: Option<Output>,
+    plot: Option<Output>,
+    out: &'a mut Stdout,
+}
+
+impl Each for Units<'_> {
+    fn unit(&mut self, r: &StreamReport<'_>) -> Result<()> {
+        self.begin()?;
+        let (read, words) = r.raw();
+        self.totals.take(r);
+        self.tell_missing(read);
+        let slice = (read.answer == 1).then(|| Slice::of(self.table, words));
+        if self.asked.kind == Kind::Qp {
+            if read.answer != 1 && read.answer != 3 {
+                return Ok(());
+            }
+            self.note(r, slice)?;
+        }
+        if self.lines {
+            self.line.clear();
+            self.tell(r, slice.unwrap_or_default());
+            self.out.write(&self.line)?;
+        }
+        Ok(())
+    }
+
+    fn pause(&mut self) -> Result<()> {
+        self.out.flush_lines()
+    }
+
+    /// A closed standard output ends the printing, not the work: files, and what the exit status tells.
+    fn wanted(&self) -> bool {
+        let files = [&self.csv, &self.plot];
+        let mut files = files.into_iter().flatten().filter(|to| !to.is_stdout());
+        !self.out.closed() || self.asked.ending.strict || files.next().is_some()
+    }
+}
+
+impl Units<'_> {
+    /// The columns' names, once there is anything to tell.
+    fn begin(&mut self) -> Result<()> {
+        if std::mem::replace(&mut self.begun, true) {
+            return Ok(());
+        }
+        if self.lines && self.asked.format == Format::Csv {
+            self.out.write(form::head(self.columns()).as_bytes())?;
+        }
+        match &mut self.csv {
+            None => Ok(()),
+            Some(csv) => csv.write(form::head(&QP).as_bytes(), self.out),
+        }
+    }
+
+    fn columns(&self) -> &'static [&'static str] {
+        match self.asked.kind {
+            Kind::List => &LIST,
+            Kind::Headers => &NAMES,
+            Kind::Qp => &QP,
+        }
+    }
+
+    /// A unit's line, object or row.
+    fn tell(&mut self, r: &StreamReport<'_>, slice: Slice) {
+        let (columns, kind, read) = (self.columns(), self.asked.kind, r.raw().0);
+        let (place, length) = (r.place as i64, r.length as i64);
+        let line = &mut self.line;
+        match self.asked.format {
+            Format::Text => {
+                line.extend_from_slice(b"unit place=");
+                number(line, place);
+                line.extend_from_slice(b" length=");
+                number(line, length);
+                line.push(b' ');
+                if read.answer == 1 && kind != Kind::Headers {
+                    slice_text(&slice, kind == Kind::Qp, line);
+                } else {
+                    let (to, more, why) = (&mut *line, true, self.terminal);
+                    fields(kind, r, &slice, &mut Text { to, more, why });
+                }
+                line.push(b'\n');
+            }
+            Format::Json => form::json(line, place, length, |form| fields(kind, r, &slice, form)),
+            Format::Csv => form::row(line, columns, place, length, |form| {
+                fields(kind, r, &slice, form)
+            }),
+        }
+    }
+
+    /// What `tuz qp` keeps of a slice or a refused unit.
+    fn note(&mut self, r: &StreamReport<'_>, slice: Option<Slice>) -> Result<()> {
+        let point = slice.map(|s| (s.slice_type % 5, s.qp));
+        self.quantisers.take(point);
+        if let Some(course) = &mut self.course {
+            course.take(r.place, point.ok_or(r.raw().0.number));
+        }
+        if let Some(csv) = &mut self.csv {
+            let (place, length) = (r.place as i64, r.length as i64);
+            let slice = slice.unwrap_or_default();
+            self.line.clear();
+            form::row(&mut self.line, &QP, place, length, |form| {
+                fields(Kind::Qp, r, &slice, form)
+            });
+            csv.write(&self.line, self.out)?;
+        }
+        Ok(())
+    }
+
+    /// Says once that no table was given.
+    fn tell_missing(&self, read: &ReadOut) {
+        let first = self.totals.missing == 1 && read.answer == 3 && matches!(read.number, 9 | 10);
+        if first && !self.asked.clip.has_table() {
+            eprintln!(
+                "tuz: {}: no table is given, so its slices are refused with 9: `--table FILE` names the parameter sets (`tuz help cases`)",
+                self.asked.clip.name()
+            );
+        }
+    }
+
+    /// All units were told: the last lines, the files, the totals.
+    fn end(mut self, bytes: u64) -> Result<u8> {
+        self.begin()?;
+        let (kind, text) = (self.asked.kind, self.asked.format == Format::Text);
+        let (clip, ending) = (self.asked.clip, self.asked.ending);
+        let name = clip.name();
+        if self.lines && text && kind == Kind::List {
+            let (units, refused) = (self.totals.units, self.totals.refused);
+            let end = format!("end units={units} refused={refused}\n");
+            self.out.write(end.as_bytes())?;
+        }
+        let sums = match kind {
+            Kind::Qp => self.quantisers.lines(),
+            _ => String::new(),
+        };
+        if self.lines && text {
+            self.out.write(sums.as_bytes())?;
+        }
+        if let (Some(course), Some(plot)) = (&self.course, &mut self.plot) {
+            plot.write(course.svg(&name).as_bytes(), self.out)?;
+        }
+        for file in [self.csv.take(), self.plot.take()].into_iter().flatten() {
+            file.finish()?;
+        }
+        self.out.finish()?;
+        if clip.has_table() && self.totals.none_has_its_sets() {
+            eprintln!("tuz: {name}: no slice has its parameter sets in the table");
+        }
+        if !ending.quiet {
+            if !(self.lines && text) {
+                eprint!("{sums}");
+            }
+            eprintln!("{name}: {}", self.totals.told(bytes));
+        }
+        Ok(u8::from(ending.strict && self.totals.refused > 0))
+    }
+}
+
+fn fields(kind: Kind, r: &StreamReport<'_>, slice: &Slice, form: &mut impl Form) {
+    let (bytes, (read, words)) = (r.bytes(), r.raw());
+    match kind {
+        Kind::Headers => answer::write(bytes, read, words, Some(slice.qp), form),
+        _ => answer::brief(bytes, read, slice, form),
+    }
+}
+
+/// A slice as document 01's listing has it; `tuz qp` names its type too.
+fn slice_text(slice: &Slice, named: bool, to: &mut Vec<u8>) {
+    to.extend_from_slice(b"slice type=");
+    number(to, slice.slice_type.into());
+    if named {
+        to.extend_from_slice(b" family=");
+        to.extend_from_slice(slice.family().as_bytes());
+    }
+    to.extend_from_slice(b" frame=");
+    number(to, slice.frame_num.into());
+    to.extend_from_slice(b" qp=");
+    number(to, slice.qp);
+}

@@ -1,0 +1,166 @@
+//! The forms in which units are told, refusals in words, and names that are no plain text.
+
+mod common;
+
+use common::*;
+use std::fs;
+use std::path::Path;
+use std::process::Command;
+
+/// A recording with every kind of answer.
+fn mixed() -> Vec<u8> {
+    let prefix: &[u8] = &[0, 0, 1, 0x6E, 0x80, 0, 7, 0xA3, 0x40];
+    [&CLIP[..], prefix, &[0, 0, 1, 0xE5], &[0, 0, 1, 0x65, 0x88]].concat()
+}
+
+fn json(words: &[&str]) -> Vec<serde_json::Map<String, serde_json::Value>> {
+    let done = tuz(&[words, &["--format", "json"]].concat(), &mixed());
+    let all = out(&done);
+    all.lines()
+        .map(|l| serde_json::from_str(l).unwrap())
+        .collect()
+}
+
+/// One schema: what `list` and `qp` tell of a unit is a part of what `headers` tells, under the same names, as JSON and as CSV.
+#[test]
+fn one_schema() {
+    let all = json(&["headers", "-", "--sample", "-q"]);
+    assert_eq!(all.len(), 5);
+    for (command, units) in [("list", 5), ("qp", 3)] {
+        let words = [command, "-", "--sample", "-q"];
+        let some = json(&words);
+        assert_eq!(some.len(), units);
+        for object in &some {
+            let whole = all.iter().find(|o| o["place"] == object["place"]).unwrap();
+            assert!(object.iter().all(|(k, v)| &whole[k] == v), "{object:?}");
+        }
+        let csv = out(&tuz(&[&words[..], &["--format", "csv"]].concat(), &mixed()));
+        let mut rows = csv::Reader::from_reader(csv.as_bytes());
+        let columns = rows.headers().unwrap().clone();
+        for (row, object) in rows.records().map(Result::unwrap).zip(&some) {
+            let cells = columns
+                .iter()
+                .zip(&row)
+                .filter(|(_, cell)| !cell.is_empty());
+            let cells: Vec<_> = cells.collect();
+            assert_eq!(cells.len(), object.len());
+            for (name, cell) in cells {
+                let told = &object[name];
+                assert_eq!(told.as_str().map_or(told.to_string(), str::to_owned), cell);
+            }
+        }
+    }
+    let slice = &json(&["list", "-", "--sample", "-q"])[0];
+    let text = serde_json::to_string(&slice).unwrap();
+    assert_eq!(
+        text,
+        r#"{"answer":"slice","family":"I","frame_num":0,"length":4,"place":4,"qp":26,"slice_type":7}"#
+    );
+}
+
+/// Refusals are told in words in JSON and on a terminal; text that goes elsewhere is document 01's.
+#[test]
+fn refusals_in_words() {
+    let units = json(&["list", "-", "--sample", "-q"]);
+    assert_eq!(units[4]["why"], "the bits ran out inside a field");
+    let clip = file("words.264", &mixed());
+    let line = format!(
+        "{} list {} --sample -q",
+        env!("CARGO_BIN_EXE_tuz"),
+        word(&clip)
+    );
+    let terminal = Command::new("script")
+        .args(["-qec", &line, "/dev/null"])
+        .output()
+        .unwrap();
+    let told = out(&terminal).replace("\r\n", "\n");
+    assert!(told.contains("\nunit place=25 length=1 refused 2 value=0: the top bit of the unit's first byte is set\n"), "{told}");
+    let plain = out(&tuz(&["list", word(&clip), "--sample", "-q"], &[]));
+    let cut = |line: &str| line.split(": ").next().unwrap().to_owned();
+    let cut: Vec<_> = told.lines().map(cut).collect();
+    assert_eq!(cut, plain.lines().collect::<Vec<_>>());
+}
+
+#[test]
+fn a_refusal_is_explained() {
+    let done = tuz(&["explain", "12"], &[]);
+    assert!(out(&done).starts_with("refused 12: modification_of_pic_nums_idc is over 5"));
+    assert_eq!(out(&tuz(&["explain"], &[])).lines().count(), 27);
+    let done = tuz(&["explain", "28"], &[]);
+    assert_eq!(
+        (err(&done).as_str(), done.status.code()),
+        ("tuz: 28 is no refusal: they are 1 to 27\n", Some(2))
+    );
+}
+
+/// The picture of so many slices, of which the last is refused.
+fn picture(slices: usize) -> String {
+    let clip = [&CLIP.repeat(slices)[..], &[0, 0, 1, 0xE5]].concat();
+    out(&tuz(&["qp", "-", "--sample", "-q", "--plot", "-"], &clip))
+}
+
+#[test]
+fn a_picture_of_any_number_of_slices() {
+    for slices in [0, 1, 24, 500, 5_000, 100_000] {
+        let svg = picture(slices);
+        assert!(
+            svg.starts_with("<svg ") && svg.ends_with("</svg>\n"),
+            "{slices}"
+        );
+        assert!(
+            svg.contains("refused 1 (2: 1)") && svg.contains(">2</text>"),
+            "{slices}"
+        );
+        assert!(
+            svg.len() < 120_000 && !svg.contains("NaN") && !svg.contains("inf"),
+            "{slices}"
+        );
+        // each of few is a point; many are thin marks
+        let points = if slices <= 500 { slices } else { 0 };
+        assert_eq!(svg.matches("<circle").count(), points);
+    }
+    // where all is refused, the axis is that of 8 bits
+    let none = picture(0);
+    assert!(none.contains(">0</text>") && none.contains(">50</text>"));
+}
+
+/// Names that would steer a terminal or break a picture are told with escapes.
+#[test]
+fn names_steer_nothing() {
+    let name = "a\u{1b}[31m<b>&\"\u{202e}\n\u{7}.264";
+    let clip = file(name, &CLIP);
+    let told = "a\\u{1b}[31m<b>&\"\\u{202e}\\u{a}\\u{7}.264";
+    let svg = clip.with_file_name("steer.svg");
+    let done = tuz(&["qp", word(&clip), "--sample", "--plot", word(&svg)], &[]);
+    assert!(err(&done).contains(told), "{}", err(&done));
+    let svg = fs::read_to_string(svg).unwrap();
+    let escaped = told
+        .replace('&', "&amp;")
+        .replace('<', "&lt;")
+        .replace('>', "&gt;")
+        .replace('"', "&quot;");
+    assert!(svg.contains(&escaped), "{svg}");
+    let missing = "/nowhere/\u{1b}[2J";
+    let table = file("steer.table", "sps:\u{1b}[2J".as_bytes());
+    for words in [
+        &["list", missing][..],
+        &["list", "-", missing],
+        &["list", "-", "--table", missing],
+        &["list", "-", "--table", word(&table)],
+        &["tear", "-", "--sample", "-o", missing],
+        &["qp", "-", "--sample", "--csv", missing],
+        &["cases", missing],
+        &[missing],
+    ] {
+        let done = tuz(words, &CLIP);
+        assert_eq!(done.status.code(), Some(2));
+        assert!(
+            err(&done).contains("\\u{1b}[2J") && !err(&done).contains('\u{1b}'),
+            "{}",
+            err(&done)
+        );
+    }
+    let case = tuz(&["cases", "-"], "sps:\u{1b}[2J 65\n".as_bytes());
+    assert!(!err(&case).contains('\u{1b}') && Path::new(word(&clip)).exists());
+    fs::remove_file(clip).unwrap();
+}
