@@ -1,4 +1,5 @@
 pub mod Fronts
+pub mod Emptied
 pub mod Lent
 pub mod Prefixed
 pub mod Entries
