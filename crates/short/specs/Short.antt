@@ -1,5 +1,6 @@
 -- Reading a header into lent words: where it ends, and what is left in the words of its fields and of its lists.
 use Prim.Native.Nat.{ℕ}
+use mathlib.Core.Path.{_≡_}
 use mathlib.Core.Bool.{Bool, true, false}
 use mathlib.Core.List.{List, [], _∷_, _++_}
 use lib.IntN.{ℤ, pos}
@@ -8,6 +9,7 @@ use lib.Seq.{sets}
 use denote.Ref.{RefT, now}
 use denote.Triple.Both.{Both}
 use Rattle.bits.specs.Refusals.{Res, got, no}
+use Rattle.fmt.specs.Arrays.{pad}
 use Rattle.syntax.specs.declared.marks.MarkedFlag.{MarkedFlag}
 use Rattle.syntax.specs.declared.marks.MarkedNumber.{MarkedNumber}
 use Rattle.syntax.specs.declared.record.OrderCount.{OrderCount}
@@ -171,3 +173,35 @@ zeros =
 unfoldable pub headerLeft : Res SliceHeader → HeaderWords → HeaderWords
 headerLeft (got h e) b = headerIn h (emptied b)
 headerLeft (no r) b = zeros
+
+-- ---- words that hold a header and nothing else
+
+-- words with these fields and no list
+abbrev pub listless : HeaderWords → HeaderWords
+listless w =
+    record {
+      numbers = w .numbers;
+      signed = w .signed;
+      l0 = replicate 198 0;
+      l1 = replicate 198 0;
+      marking = replicate 198 0;
+      w0 = replicate 256 (pos 0);
+      w1 = replicate 256 (pos 0);
+    }
+
+-- what the counts do not say is in use is zero
+unfoldable pub Tidy : HeaderWords → Type 0
+Tidy w = emptied w ≡ listless w
+
+-- a header's words, with zeros behind each list's entries
+abbrev pub headerAlone : SliceHeader → HeaderWords
+headerAlone h =
+    record {
+      numbers = numbersOf (shortOf h);
+      signed = signedOf (shortOf h);
+      l0 = pad 0 198 (listWords (h .modifications .l0 .operations));
+      l1 = pad 0 198 (listWords (h .modifications .l1 .operations));
+      marking = pad 0 198 (listWords (h .«dec_ref_pic_marking» .operations));
+      w0 = pad (pos 0) 256 (weightWords (h .«pred_weight_table» .l0));
+      w1 = pad (pos 0) 256 (weightWords (h .«pred_weight_table» .l1));
+    }

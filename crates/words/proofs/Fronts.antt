@@ -22,7 +22,7 @@ module _ {A : Type 0} where
 
 -- entries of n words each
 module _ {A B : Type 0} (f : A → List B) (n : ℕ) where
-  length-flat : ((a : A) → length (f a) ≡ n) → (l : List A) → length (flatMap f l) ≡ n * length l
+  pub length-flat : ((a : A) → length (f a) ≡ n) → (l : List A) → length (flatMap f l) ≡ n * length l
   unfolding flatMap
   length-flat size [] = omega arith
   length-flat size (a ∷ l) = omega (arith, length-append (f a) (flatMap f l), size a, length-flat size l, mul-suc n (length l))
