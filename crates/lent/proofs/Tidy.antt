@@ -1,6 +1,7 @@
 -- Lent words hold the record and nothing else: words that were tidy are tidy after every answer, and a slice's header then stands alone in them. `base` has no count
 -- among the words, and needs none: a prefix unit's list stands alone in it whatever the words were.
 use Prim.Native.Nat.{ℕ}
+use native.Mathlib.Omega.{arith}
 use mathlib.Core.Path.{_≡_, refl, subst, sym, _∙_}
 use mathlib.Core.Bool.{Bool, true, false}
 use mathlib.Core.List.{List}
@@ -29,7 +30,7 @@ use Rattle.unit.specs.declared.answer.UnitRead.{UnitRead}
 use Rattle.unit.specs.declared.begin.Begun.{Begun}
 use Rattle.unit.specs.Answer.{only, sliceAnswer, prefixAnswer}
 use Rattle.unit.specs.Begin.{begun}
-use Rattle.unit.specs.Unit.{untouched, inBody, sliceBits, prefixBits, afterBegin, unitRead}
+use Rattle.unit.specs.Unit.{UnitOut, untouched, inBody, sliceBits, prefixBits, afterBegin, unitRead}
 use Rattle.lent.specs.Lent.{Lent, after, wordsAfter}
 
 -- ---- what is read is in order
@@ -61,13 +62,13 @@ body-ordered : (reads : Bits → UnitRead) (unit : List ℕ) (from : ℕ) (scrat
 unfolding inBody only
 body-ordered reads unit from scratch f = go (leb (length unit) (length scratch))
   where
-    abbrev out : Bool → UnitRead
+    out : Bool → UnitOut
     out t =
         pick t
         (record { read = reads (bytesBits (body 0 (drop from unit))); left = startWith (body 0 (drop from unit)) scratch })
-        (untouched (UnitAnswer.Refused (refusal bufferTooShort (pos (length unit)) 0)) scratch) .read
+        (untouched (UnitAnswer.Refused (refusal bufferTooShort (pos (length unit)) 0)) scratch)
 
-    go : (t : Bool) → Ordered (out t .answer) (out t)
+    go : (t : Bool) → Ordered (out t .read .answer) (out t .read)
     go true = f (bytesBits (body 0 (drop from unit)))
     go false = tt
 
