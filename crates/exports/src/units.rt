@@ -9,7 +9,7 @@ ghost use Rattle.lists.specs.Absent.{noPrefix};
 ghost use Rattle.header.specs.Lead.{tableOf};
 ghost use Rattle.words.specs.ListsLent.{prefixShort};
 ghost use Rattle.unit.specs.Unit.{unitRead};
-ghost use Rattle.lent.specs.Lent.{Lent, wordsAfter};
+ghost use Rattle.lent.specs.Lent.{lentWords, wordsAfter};
 ghost use Rattle.exports.specs.Units.{told, unitOut};
 
 // What reading a unit answers. What the answer does not speak of is zero.
@@ -77,7 +77,7 @@ pub(crate) fn tell(a: ShortAnswer) -> ReadOut
 }
 
 // A unit read by the sets in a table's two arrays. Scratch needs as many bytes as the unit has. A slice's header goes to `numbers` and `signed` (fields) and to l0,
-// l1, marking, w0 and w1 (lists), a prefix unit's list to `base`; all other words stay as they were. Beside a refusal all words are zeros.
+// l1, marking, w0 and w1 (lists), a prefix unit's list to `base`; all other words stay as they were, so words that were zeros behind their counts stay so. Beside a refusal all words are zeros.
 #[no_mangle]
 pub extern "C" fn tuz_read_unit<'a>(
     sequences: &'a [u32; 224],
@@ -94,7 +94,7 @@ pub extern "C" fn tuz_read_unit<'a>(
     base: &mut [u32; 198],
 ) -> ReadOut
     ensures { λ r. ⌜ (r ≡ unitOut (unitRead (tableOf (now (sequences .entry)) (now (pictures .entry))) (now (unit .entry)) (now (scratch .entry)) .read)) × (now (scratch .exit) ≡ unitRead (tableOf (now (sequences .entry)) (now (pictures .entry))) (now (unit .entry)) (now (scratch .entry)) .left) ⌝ }
-    ensures words { λ r. ⌜ _≡_ {A = Lent} (record { header = record { numbers = now (numbers .exit); signed = now (signed .exit); l0 = now (l0 .exit); l1 = now (l1 .exit); marking = now (marking .exit); w0 = now (w0 .exit); w1 = now (w1 .exit) }; base = now (base .exit) }) (wordsAfter (unitRead (tableOf (now (sequences .entry)) (now (pictures .entry))) (now (unit .entry)) (now (scratch .entry)) .read) (record { header = record { numbers = now (numbers .entry); signed = now (signed .entry); l0 = now (l0 .entry); l1 = now (l1 .entry); marking = now (marking .entry); w0 = now (w0 .entry); w1 = now (w1 .entry) }; base = now (base .entry) })) ⌝ }
+    ensures words { λ r. ⌜ lentWords numbers signed l0 l1 marking w0 w1 base .exit ≡ wordsAfter (unitRead (tableOf (now (sequences .entry)) (now (pictures .entry))) (now (unit .entry)) (now (scratch .entry)) .read) (lentWords numbers signed l0 l1 marking w0 w1 base .entry) ⌝ }
 {
     tell(read_unit_into(
         sequences,

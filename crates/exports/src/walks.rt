@@ -9,7 +9,7 @@ use walk::walk::next_step;
 ghost use mathlib.Core.Path.{_≡_};
 ghost use Rattle.header.specs.Lead.{tableOf};
 ghost use Rattle.walk.specs.Walked.{nothing, walked};
-ghost use Rattle.lent.specs.Lent.{Lent, wordsAfter};
+ghost use Rattle.lent.specs.Lent.{lentWords, wordsAfter};
 ghost use Rattle.exports.specs.Walks.{came, walkOut};
 
 // A step of the walk. What it does not speak of is zero.
@@ -104,7 +104,7 @@ pub extern "C" fn tuz_walk<'a>(
     base: &mut [u32; 198],
 ) -> WalkOut
     ensures { λ r. ⌜ (r ≡ walkOut (walked (tableOf (now (sequences .entry)) (now (pictures .entry))) (now (recording .entry)) from (now (scratch .entry)) .walked)) × (now (scratch .exit) ≡ walked (tableOf (now (sequences .entry)) (now (pictures .entry))) (now (recording .entry)) from (now (scratch .entry)) .left) ⌝ }
-    ensures words { λ r. ⌜ _≡_ {A = Lent} (record { header = record { numbers = now (numbers .exit); signed = now (signed .exit); l0 = now (l0 .exit); l1 = now (l1 .exit); marking = now (marking .exit); w0 = now (w0 .exit); w1 = now (w1 .exit) }; base = now (base .exit) }) (wordsAfter (walked (tableOf (now (sequences .entry)) (now (pictures .entry))) (now (recording .entry)) from (now (scratch .entry)) .walked .read) (record { header = record { numbers = now (numbers .entry); signed = now (signed .entry); l0 = now (l0 .entry); l1 = now (l1 .entry); marking = now (marking .entry); w0 = now (w0 .entry); w1 = now (w1 .entry) }; base = now (base .entry) })) ⌝ }
+    ensures words { λ r. ⌜ lentWords numbers signed l0 l1 marking w0 w1 base .exit ≡ wordsAfter (walked (tableOf (now (sequences .entry)) (now (pictures .entry))) (now (recording .entry)) from (now (scratch .entry)) .walked .read) (lentWords numbers signed l0 l1 marking w0 w1 base .entry) ⌝ }
 {
     let step = next_step(recording, from);
     let Step::Unit(place, length, next) = step else {

@@ -46,7 +46,7 @@ module _ {o : UnitOut} {left : List ℕ} where
 
 -- ---- the body of a prefix unit
 
-body-held : (m : Res Prefix) (b : List ℕ) {a : PrefixStep} {w : List ℕ} → a ≡ prefixStep m → w ≡ prefixLeft m b → (h : HeaderWords)
+body-held : (m : Res Prefix) (b : List ℕ) {a : PrefixStep} {w : List ℕ} → a ≡ prefixStep m → w ≡ prefixLeft m → (h : HeaderWords)
     → (bodyShort a ≡ shortAnswer (prefixAnswer m)) × Held (bodyShort a) (prefixAnswer m) (record { header = h; base = b }) (record { header = h; base = w })
 unfolding prefixStep leaves shortAnswer wordsAfter only
 body-held (got p e) b k q h = rw k (refl, rw q)
@@ -54,7 +54,7 @@ body-held (no r) b k q h = rw k (refl, tt)
 
 module _ {o : UnitOut} {left : List ℕ} where
   pub body-taken : (there : Bool) (s : Bits) → o ≡ record { read = prefixBits there s; left = left } → (b : List ℕ) {a : PrefixStep} {r : ShortAnswer} {w : List ℕ}
-      → a ≡ prefixStep (prefix there .read s 0) → w ≡ prefixLeft (prefix there .read s 0) b → r ≡ bodyShort a
+      → a ≡ prefixStep (prefix there .read s 0) → w ≡ prefixLeft (prefix there .read s 0) → r ≡ bodyShort a
       → (h : HeaderWords) → Taken o r left (record { header = h; base = b }) (record { header = h; base = w })
   unfolding prefixBits
   body-taken there s e b p q k h =

@@ -2,12 +2,15 @@
 use Prim.Native.Nat.{ℕ}
 use mathlib.Core.Path.{_≡_}
 use mathlib.Core.List.{List}
+use lib.IntN.{ℤ}
 use lib.ListN.{replicate}
 use lib.Seq.{sets}
+use denote.Ref.{now}
+use denote.Triple.Both.{Both}
 use Rattle.codes.specs.declared.step.End.{End}
 use Rattle.words.specs.declared.list_words.PrefixStep.{PrefixStep}
 use Rattle.words.specs.ListsLent.{listWords, prefixShort}
-use Rattle.short.specs.Short.{HeaderWords, headerIn, zeros}
+use Rattle.short.specs.Short.{HeaderWords, Array, headerWords, emptied, headerIn, zeros}
 use Rattle.unit.specs.declared.answer.UnitAnswer.{UnitAnswer}
 use Rattle.unit.specs.declared.answer.UnitRead.{UnitRead}
 use Rattle.lent.specs.declared.whole.ShortAnswer.{ShortAnswer}
@@ -28,10 +31,16 @@ pub record Lent : Type 0 where
   pub header : HeaderWords
   pub base : List ℕ
 
--- what is left in words that were `w` before: a slice's header, a prefix's list, zeros beside a refusal; all other words are as before
+-- the words in the arrays that are lent
+abbrev pub lentWords : Array ℕ → Array ℤ → Array ℕ → Array ℕ → Array ℕ → Array ℤ → Array ℤ → Array ℕ → Both Lent Lent
+lentWords numbers signed l0 l1 marking w0 w1 base =
+    let h = headerWords numbers signed l0 l1 marking w0 w1 in
+    record { entry = record { header = h .entry; base = now (base .entry) }; exit = record { header = h .exit; base = now (base .exit) } }
+
+-- what is left in words that were `w` before: a slice's header over emptied words, a prefix's list over zeros, zeros beside a refusal; all other words are as before
 abbrev pub after : UnitAnswer → UnitRead → Lent → Lent
-after (UnitAnswer.Slice n) u w = record { header = headerIn (u .header) (w .header); base = w .base }
-after UnitAnswer.«Prefix» u w = record { header = w .header; base = sets (w .base) 0 (listWords (u .prefix .«base_marking»)) }
+after (UnitAnswer.Slice n) u w = record { header = headerIn (u .header) (emptied (w .header)); base = w .base }
+after UnitAnswer.«Prefix» u w = record { header = w .header; base = sets (replicate 198 0) 0 (listWords (u .prefix .«base_marking»)) }
 after (UnitAnswer.Other t) u w = w
 after (UnitAnswer.Refused r) u w = record { header = zeros; base = replicate 198 0 }
 

@@ -20,8 +20,8 @@ ghost use lib.ListN.{length};
 ghost use Rattle.bits.specs.Refusals.{limit};
 ghost use Rattle.header.specs.Lead.{tableOf};
 ghost use Rattle.unit.specs.Unit.{inBody, sliceBits, prefixBits, unitRead};
-ghost use Rattle.short.specs.Short.{HeaderWords};
-ghost use Rattle.lent.specs.Lent.{sliceShort, bodyShort, Taken, ReadInto};
+ghost use Rattle.short.specs.Short.{HeaderWords, headerWords};
+ghost use Rattle.lent.specs.Lent.{lentWords, sliceShort, bodyShort, Taken, ReadInto};
 
 pub enum ShortAnswer {
     // a slice header, of so many bits, which stands in the words
@@ -67,7 +67,7 @@ fn slice_into<'a>(
     w1: &mut [i32; 256],
 ) -> ShortAnswer
     requires { ⌜ length (now unit) ≤ limit ⌝ }
-    ensures { λ r. ⌜ ((b : List ℕ) → Taken (inBody (sliceBits (tableOf (now (sequences .entry)) (now (pictures .entry))) kind) (now (unit .entry)) from (now (scratch .entry))) r (now (scratch .exit)) (record { header = record { numbers = now (numbers .entry); signed = now (signed .entry); l0 = now (l0 .entry); l1 = now (l1 .entry); marking = now (marking .entry); w0 = now (w0 .entry); w1 = now (w1 .entry) }; base = b }) (record { header = record { numbers = now (numbers .exit); signed = now (signed .exit); l0 = now (l0 .exit); l1 = now (l1 .exit); marking = now (marking .exit); w0 = now (w0 .exit); w1 = now (w1 .exit) }; base = b })) ⌝ }
+    ensures { λ r. ⌜ ((b : List ℕ) → Taken (inBody (sliceBits (tableOf (now (sequences .entry)) (now (pictures .entry))) kind) (now (unit .entry)) from (now (scratch .entry))) r (now (scratch .exit)) (record { header = headerWords numbers signed l0 l1 marking w0 w1 .entry; base = b }) (record { header = headerWords numbers signed l0 l1 marking w0 w1 .exit; base = b })) ⌝ }
 {
     match unescape(unit, from, scratch) {
         Body::Of(n) => slice_short(read_header_into(
@@ -113,7 +113,7 @@ fn take<'a>(
     w1: &mut [i32; 256],
     base: &mut [u32; 198],
 ) -> ShortAnswer
-    ensures { λ r. ⌜ Taken (unitRead (tableOf (now (sequences .entry)) (now (pictures .entry))) (now (unit .entry)) (now (scratch .entry))) r (now (scratch .exit)) (record { header = record { numbers = now (numbers .entry); signed = now (signed .entry); l0 = now (l0 .entry); l1 = now (l1 .entry); marking = now (marking .entry); w0 = now (w0 .entry); w1 = now (w1 .entry) }; base = now (base .entry) }) (record { header = record { numbers = now (numbers .exit); signed = now (signed .exit); l0 = now (l0 .exit); l1 = now (l1 .exit); marking = now (marking .exit); w0 = now (w0 .exit); w1 = now (w1 .exit) }; base = now (base .exit) }) ⌝ }
+    ensures { λ r. ⌜ Taken (unitRead (tableOf (now (sequences .entry)) (now (pictures .entry))) (now (unit .entry)) (now (scratch .entry))) r (now (scratch .exit)) (lentWords numbers signed l0 l1 marking w0 w1 base .entry) (lentWords numbers signed l0 l1 marking w0 w1 base .exit) ⌝ }
 {
     match begin(unit) {
         Begun::Slice(kind, from) => slice_into(
@@ -137,8 +137,9 @@ fn take<'a>(
     }
 }
 
-// A unit read by the sets in a table's two arrays. Scratch is left as `read_unit_in` leaves it. A slice's header goes to the words of its fields and lists, a prefix
-// unit's list to `base`; all other words stay as they were. Beside a refusal all words are zeros.
+// A unit read by the sets in a table's two arrays. Scratch is left as `read_unit_in` leaves it. A slice's header goes to the words of its fields and lists, over
+// zeros where the counts said that a list was, and a prefix unit's list to `base`, over zeros; all other words stay as they were. Beside a refusal all words are
+// zeros.
 pub fn read_unit_into<'a>(
     sequences: &'a [u32; 224],
     pictures: &'a [u32; 2048],
@@ -153,7 +154,7 @@ pub fn read_unit_into<'a>(
     w1: &mut [i32; 256],
     base: &mut [u32; 198],
 ) -> ShortAnswer
-    ensures { λ r. ⌜ ReadInto (unitRead (tableOf (now (sequences .entry)) (now (pictures .entry))) (now (unit .entry)) (now (scratch .entry))) r (now (scratch .exit)) (record { header = record { numbers = now (numbers .entry); signed = now (signed .entry); l0 = now (l0 .entry); l1 = now (l1 .entry); marking = now (marking .entry); w0 = now (w0 .entry); w1 = now (w1 .entry) }; base = now (base .entry) }) (record { header = record { numbers = now (numbers .exit); signed = now (signed .exit); l0 = now (l0 .exit); l1 = now (l1 .exit); marking = now (marking .exit); w0 = now (w0 .exit); w1 = now (w1 .exit) }; base = now (base .exit) }) ⌝ }
+    ensures { λ r. ⌜ ReadInto (unitRead (tableOf (now (sequences .entry)) (now (pictures .entry))) (now (unit .entry)) (now (scratch .entry))) r (now (scratch .exit)) (lentWords numbers signed l0 l1 marking w0 w1 base .entry) (lentWords numbers signed l0 l1 marking w0 w1 base .exit) ⌝ }
 {
     match take(
         sequences,

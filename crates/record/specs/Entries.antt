@@ -2,10 +2,8 @@
 use Prim.Native.Nat.{ℕ, zero, suc}
 use mathlib.Core.Bool.{Bool, not}
 use mathlib.Core.List.{List, [], _∷_}
-use lib.Dec.{leb}
 use lib.IntN.{ℤ, pos}
 use lib.ListN.{getD, drop}
-use Rattle.bits.specs.Refusals.{pick}
 use Rattle.fmt.specs.Arrays.{pad}
 use Rattle.syntax.specs.Marks.{isZeroZ}
 use Rattle.syntax.specs.Lists.{Operation, toOperations}
@@ -14,10 +12,7 @@ use Rattle.syntax.specs.declared.record.Operations.{Operations}
 use Rattle.syntax.specs.declared.record.Weight.{Weight}
 use Rattle.syntax.specs.declared.record.WeightList.{WeightList}
 use Rattle.weights.specs.Counts.{atMost32}
-
--- a count over 66, the most that a list holds, counts as 66
-unfoldable pub atMost66 : ℕ → ℕ
-atMost66 n = pick (leb n 66) n 66
+use Rattle.words.specs.ListsLent.{atMost66}
 
 -- the first n entries, three words each
 unfoldable pub operationsIn : ℕ → List ℕ → List Operation

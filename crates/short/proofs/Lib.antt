@@ -1,3 +1,4 @@
 pub mod Told
 pub mod Lists
 pub mod Parts
+pub mod Tidy

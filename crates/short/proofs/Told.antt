@@ -1,7 +1,7 @@
 -- An answer beside its words, taken apart: the part that was read, or the refusal.
 use Prim.Native.Nat.{ℕ}
 use native.Mathlib.Omega.{arith}
-use mathlib.Core.Path.{_≡_, refl, sym, subst}
+use mathlib.Core.Path.{_≡_, refl, sym, ap, subst, _∙_}
 use mathlib.Core.List.{List}
 use lib.IntN.{ℤ}
 use lib.Seq.{sets}
@@ -16,7 +16,7 @@ use Rattle.codes.specs.declared.step.End.{End}
 use Rattle.words.specs.Leaves.{leaves}
 use Rattle.words.specs.ListsLent.{listWords}
 use Rattle.words.specs.WeightsLent.{weightsStep, weightsLeft, weightWords, weightsShort}
-use Rattle.short.specs.Short.{HeaderWords, headerIn, zeros, headerEnd, headerLeft}
+use Rattle.short.specs.Short.{HeaderWords, emptied, headerIn, zeros, headerEnd, headerLeft}
 use Rattle.short.specs.Told.{ListsTold, MarksTold, Filled, listsOf, marksOf}
 use Rattle.words.specs.declared.weight_words.WeightsStep.{WeightsStep}
 use Rattle.words.specs.declared.weight_words.WeightsShort.{WeightsShort}
@@ -101,14 +101,14 @@ filled-got b h k = rw h (refl, k)
 pub filled-as : (a : End) (b w : HeaderWords) {m n : Res SliceHeader} → m ≡ n → Filled n a b w → Filled m a b w
 filled-as a b w e f = subst (λ (r : Res SliceHeader). Filled r a b w) (sym e) f
 
--- what the public function says
-pub left-got : (m : Res SliceHeader) (b w : HeaderWords) {a : End} {c : Cursor} → Filled m a b w → a ≡ End.At c → (a ≡ headerEnd m) × (w ≡ headerLeft m b)
+-- what the public function says: the words, which were b, were emptied first
+pub left-got : (m : Res SliceHeader) (b v w : HeaderWords) {a : End} {c : Cursor} → v ≡ emptied b → Filled m a v w → a ≡ End.At c → (a ≡ headerEnd m) × (w ≡ headerLeft m b)
 unfolding Filled headerEnd headerLeft
-left-got (got h e) b w f g = f
-left-got (no r) b w f g = let z : _≡_ {A = ℕ} 0 1 = cc in absurd (omega arith)
+left-got (got h e) b v w k f g = (f .0, f .1 ∙ ap (headerIn h) k)
+left-got (no r) b v w k f g = let z : _≡_ {A = ℕ} 0 1 = cc in absurd (omega arith)
 
--- the words cleared after a refusal
-pub left-no : (m : Res SliceHeader) (b w v : HeaderWords) {a : End} {r : Refusal} → Filled m a b w → a ≡ End.Refused r → v ≡ zeros → (a ≡ headerEnd m) × (v ≡ headerLeft m b)
+-- and cleared after a refusal
+pub left-no : (m : Res SliceHeader) (b v w x : HeaderWords) {a : End} {r : Refusal} → Filled m a v w → a ≡ End.Refused r → x ≡ zeros → (a ≡ headerEnd m) × (x ≡ headerLeft m b)
 unfolding Filled headerEnd headerLeft
-left-no (got h e) b w v f g z = let f₀ = f .0 in let z : _≡_ {A = ℕ} 0 1 = cc in absurd (omega arith)
-left-no (no r) b w v f g z = (f, z)
+left-no (got h e) b v w x f g z = let f₀ = f .0 in let z : _≡_ {A = ℕ} 0 1 = cc in absurd (omega arith)
+left-no (no r) b v w x f g z = (f, z)

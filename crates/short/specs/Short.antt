@@ -1,11 +1,15 @@
 -- Reading a header into lent words: where it ends, and what is left in the words of its fields and of its lists.
 use Prim.Native.Nat.{ℕ}
+use mathlib.Core.Path.{_≡_}
 use mathlib.Core.Bool.{Bool, true, false}
 use mathlib.Core.List.{List, [], _∷_, _++_}
 use lib.IntN.{ℤ, pos}
-use lib.ListN.{replicate}
+use lib.ListN.{getD, replicate}
 use lib.Seq.{sets}
+use denote.Ref.{RefT, now}
+use denote.Triple.Both.{Both}
 use Rattle.bits.specs.Refusals.{Res, got, no}
+use Rattle.fmt.specs.Arrays.{pad}
 use Rattle.syntax.specs.declared.marks.MarkedFlag.{MarkedFlag}
 use Rattle.syntax.specs.declared.marks.MarkedNumber.{MarkedNumber}
 use Rattle.syntax.specs.declared.record.OrderCount.{OrderCount}
@@ -13,8 +17,8 @@ use Rattle.syntax.specs.declared.record.Quantiser.{Quantiser}
 use Rattle.syntax.specs.declared.record.Filter.{Filter}
 use Rattle.syntax.specs.declared.record.SliceHeader.{SliceHeader}
 use Rattle.codes.specs.declared.step.End.{End}
-use Rattle.words.specs.ListsLent.{listWords}
-use Rattle.words.specs.WeightsLent.{weightWords, weightsShort}
+use Rattle.words.specs.ListsLent.{listWords, emptiedList}
+use Rattle.words.specs.WeightsLent.{weightWords, weightsShort, emptiedWeights}
 use Rattle.short.specs.declared.slice.HeaderShort.{HeaderShort}
 
 -- the record without its lists; of each it has the count
@@ -115,6 +119,31 @@ pub record HeaderWords : Type 0 where
   pub w0 : List ℤ
   pub w1 : List ℤ
 
+-- an array that is lent, at entry and at exit
+abbrev pub Array : Type 0 → Type 0
+Array A = Both (RefT (List A)) (RefT (List A))
+
+-- the words in the arrays that are lent
+abbrev pub headerWords : Array ℕ → Array ℤ → Array ℕ → Array ℕ → Array ℕ → Array ℤ → Array ℤ → Both HeaderWords HeaderWords
+headerWords numbers signed l0 l1 marking w0 w1 =
+    record {
+      entry = record { numbers = now (numbers .entry); signed = now (signed .entry); l0 = now (l0 .entry); l1 = now (l1 .entry); marking = now (marking .entry); w0 = now (w0 .entry); w1 = now (w1 .entry) };
+      exit = record { numbers = now (numbers .exit); signed = now (signed .exit); l0 = now (l0 .exit); l1 = now (l1 .exit); marking = now (marking .exit); w0 = now (w0 .exit); w1 = now (w1 .exit) };
+    }
+
+-- the entries that the counts among the numbers say are in use are zeroed, and no more: nothing of a header that stood there is left behind the next one's lists
+unfoldable pub emptied : HeaderWords → HeaderWords
+emptied w =
+    record {
+      numbers = w .numbers;
+      signed = w .signed;
+      l0 = emptiedList (getD (w .numbers) 29 0) (w .l0);
+      l1 = emptiedList (getD (w .numbers) 32 0) (w .l1);
+      marking = emptiedList (getD (w .numbers) 45 0) (w .marking);
+      w0 = emptiedWeights (getD (w .numbers) 37 0) (w .w0);
+      w1 = emptiedWeights (getD (w .numbers) 38 0) (w .w1);
+    }
+
 -- a header in words that were `b` before: a list's entries stand at their front, and what follows them is as before
 abbrev pub headerIn : SliceHeader → HeaderWords → HeaderWords
 headerIn h b =
@@ -142,5 +171,37 @@ zeros =
 
 -- zeros beside a refusal
 unfoldable pub headerLeft : Res SliceHeader → HeaderWords → HeaderWords
-headerLeft (got h e) b = headerIn h b
+headerLeft (got h e) b = headerIn h (emptied b)
 headerLeft (no r) b = zeros
+
+-- ---- words that hold a header and nothing else
+
+-- words with these fields and no list
+abbrev pub listless : HeaderWords → HeaderWords
+listless w =
+    record {
+      numbers = w .numbers;
+      signed = w .signed;
+      l0 = replicate 198 0;
+      l1 = replicate 198 0;
+      marking = replicate 198 0;
+      w0 = replicate 256 (pos 0);
+      w1 = replicate 256 (pos 0);
+    }
+
+-- what the counts do not say is in use is zero
+unfoldable pub Tidy : HeaderWords → Type 0
+Tidy w = emptied w ≡ listless w
+
+-- a header's words, with zeros behind each list's entries
+abbrev pub headerAlone : SliceHeader → HeaderWords
+headerAlone h =
+    record {
+      numbers = numbersOf (shortOf h);
+      signed = signedOf (shortOf h);
+      l0 = pad 0 198 (listWords (h .modifications .l0 .operations));
+      l1 = pad 0 198 (listWords (h .modifications .l1 .operations));
+      marking = pad 0 198 (listWords (h .«dec_ref_pic_marking» .operations));
+      w0 = pad (pos 0) 256 (weightWords (h .«pred_weight_table» .l0));
+      w1 = pad (pos 0) 256 (weightWords (h .«pred_weight_table» .l1));
+    }

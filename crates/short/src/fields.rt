@@ -6,6 +6,17 @@ use syntax::record::Quantiser;
 ghost use mathlib.Core.Path.{_≡_};
 ghost use Rattle.short.specs.Short.{numbersOf, signedWords, signedOf};
 
+// Where the counts of lists and weights stand among the numbers that `lay` writes.
+pub(crate) const MODIFICATIONS_L0: usize = 29;
+
+pub(crate) const MODIFICATIONS_L1: usize = 32;
+
+pub(crate) const WEIGHTS_L0: usize = 37;
+
+pub(crate) const WEIGHTS_L1: usize = 38;
+
+pub(crate) const MARKINGS: usize = 45;
+
 fn lay_signed(o: OrderCount, q: Quantiser, f: Filter, signed: &mut [i32; 7])
     ensures { λ _. ⌜ now (signed .exit) ≡ signedWords o q f ⌝ }
 {

@@ -1,5 +1,10 @@
 // The header read into lent words: its fields in two arrays, one of numbers and flags and one of signed numbers, and each list in an array of its own. A record
 // handed back by value would be copied by every function on its way.
+use crate::fields::MARKINGS;
+use crate::fields::MODIFICATIONS_L0;
+use crate::fields::MODIFICATIONS_L1;
+use crate::fields::WEIGHTS_L0;
+use crate::fields::WEIGHTS_L1;
 use crate::fields::lay;
 use bits::read::Cursor;
 use bits::refusals::NOTHING_FOLLOWS;
@@ -41,11 +46,13 @@ use syntax::record::OrderCount;
 use syntax::record::Quantiser;
 use words::list_words::ListStep;
 use words::list_words::clear_list;
+use words::list_words::empty_list;
 use words::list_words::operations_into;
 use words::list_words::why_list;
 use words::weight_words::WeightsShort;
 use words::weight_words::WeightsStep;
 use words::weight_words::clear_weights;
+use words::weight_words::empty_weights;
 use words::weight_words::weights_into;
 use words::weight_words::why_weights;
 ghost use mathlib.Core.Path.{_≡_};
@@ -54,7 +61,7 @@ ghost use Rattle.syntax.specs.SliceHeader.{readHeader, modifications, predWeigh
 ghost use Rattle.weights.specs.Counts.{atMost32};
 ghost use Rattle.header.specs.Lead.{tableOf};
 ghost use Rattle.words.specs.WeightsLent.{weightsStep, weightsLeft};
-ghost use Rattle.short.specs.Short.{HeaderWords, zeros, headerEnd, headerLeft};
+ghost use Rattle.short.specs.Short.{headerWords, emptied, zeros, headerEnd, headerLeft};
 ghost use Rattle.short.specs.Told.{ListsTold, MarksTold, Filled, behind, whyLists, whyMarks};
 
 // The header's record without its lists. Of each list it has the count: how many entries of the lent words are used.
@@ -224,7 +231,7 @@ fn behind(
     w0: &mut [i32; 256],
     w1: &mut [i32; 256],
 ) -> End
-    ensures { λ r. ⌜ Filled (behind kind l f (bitsOf (now (s .entry))) (c .at)) r (record { numbers = now (numbers .entry); signed = now (signed .entry); l0 = now (l0 .entry); l1 = now (l1 .entry); marking = now (marking .entry); w0 = now (w0 .entry); w1 = now (w1 .entry) }) (record { numbers = now (numbers .exit); signed = now (signed .exit); l0 = now (l0 .exit); l1 = now (l1 .exit); marking = now (marking .exit); w0 = now (w0 .exit); w1 = now (w1 .exit) }) ⌝ }
+    ensures { λ r. ⌜ Filled (behind kind l f (bitsOf (now (s .entry))) (c .at)) r (headerWords numbers signed l0 l1 marking w0 w1 .entry) (headerWords numbers signed l0 l1 marking w0 w1 .exit) ⌝ }
 {
     let picture = l.picture;
     let sequence = l.sequence;
@@ -300,7 +307,7 @@ fn fill<'a>(
     w0: &mut [i32; 256],
     w1: &mut [i32; 256],
 ) -> End
-    ensures { λ r. ⌜ Filled (readHeader (tableOf (now (sequences .entry)) (now (pictures .entry))) kind (bitsOf (now (s .entry)))) r (record { numbers = now (numbers .entry); signed = now (signed .entry); l0 = now (l0 .entry); l1 = now (l1 .entry); marking = now (marking .entry); w0 = now (w0 .entry); w1 = now (w1 .entry) }) (record { numbers = now (numbers .exit); signed = now (signed .exit); l0 = now (l0 .exit); l1 = now (l1 .exit); marking = now (marking .exit); w0 = now (w0 .exit); w1 = now (w1 .exit) }) ⌝ }
+    ensures { λ r. ⌜ Filled (readHeader (tableOf (now (sequences .entry)) (now (pictures .entry))) kind (bitsOf (now (s .entry)))) r (headerWords numbers signed l0 l1 marking w0 w1 .entry) (headerWords numbers signed l0 l1 marking w0 w1 .exit) ⌝ }
 {
     let a1 = lead(s, Cursor { at: 0 }, sequences, pictures);
     let LeadStep::Got(l, c1) = a1 else {
@@ -330,7 +337,7 @@ pub fn clear_header(
     w0: &mut [i32; 256],
     w1: &mut [i32; 256],
 )
-    ensures { λ _. ⌜ _≡_ {A = HeaderWords} (record { numbers = now (numbers .exit); signed = now (signed .exit); l0 = now (l0 .exit); l1 = now (l1 .exit); marking = now (marking .exit); w0 = now (w0 .exit); w1 = now (w1 .exit) }) zeros ⌝ }
+    ensures { λ _. ⌜ headerWords numbers signed l0 l1 marking w0 w1 .exit ≡ zeros ⌝ }
 {
     *numbers = [0; 57];
     *signed = [0; 7];
@@ -341,8 +348,27 @@ pub fn clear_header(
     clear_weights(w1);
 }
 
-// The header at the start of a slice unit's unescaped body, by the table whose arrays are lent. All words of its fields are written; a list's words behind its last
-// entry stay as they were. Beside a refusal all words are zeros.
+// Before a header is laid down, what the counts of the one before say is in use becomes zeros. Where all counts are 0 that is a test for each.
+fn empty_lists(
+    numbers: &mut [u32; 57],
+    signed: &mut [i32; 7],
+    l0: &mut [u32; 198],
+    l1: &mut [u32; 198],
+    marking: &mut [u32; 198],
+    w0: &mut [i32; 256],
+    w1: &mut [i32; 256],
+)
+    ensures { λ _. ⌜ headerWords numbers signed l0 l1 marking w0 w1 .exit ≡ emptied (headerWords numbers signed l0 l1 marking w0 w1 .entry) ⌝ }
+{
+    empty_list(l0, numbers[MODIFICATIONS_L0]);
+    empty_list(l1, numbers[MODIFICATIONS_L1]);
+    empty_list(marking, numbers[MARKINGS]);
+    empty_weights(w0, numbers[WEIGHTS_L0]);
+    empty_weights(w1, numbers[WEIGHTS_L1]);
+}
+
+// The header at the start of a slice unit's unescaped body, by the table whose arrays are lent. All words of its fields are written. Words that were zeros behind a
+// list's count are zeros behind the new one. Beside a refusal all words are zeros.
 pub fn read_header_into<'a>(
     s: &'a [u8],
     kind: UnitKind,
@@ -357,8 +383,9 @@ pub fn read_header_into<'a>(
     w1: &mut [i32; 256],
 ) -> End
     ensures { λ r. ⌜ r ≡ headerEnd (readHeader (tableOf (now (sequences .entry)) (now (pictures .entry))) kind (bitsOf (now (s .entry)))) ⌝ }
-    ensures words { λ r. ⌜ _≡_ {A = HeaderWords} (record { numbers = now (numbers .exit); signed = now (signed .exit); l0 = now (l0 .exit); l1 = now (l1 .exit); marking = now (marking .exit); w0 = now (w0 .exit); w1 = now (w1 .exit) }) (headerLeft (readHeader (tableOf (now (sequences .entry)) (now (pictures .entry))) kind (bitsOf (now (s .entry)))) (record { numbers = now (numbers .entry); signed = now (signed .entry); l0 = now (l0 .entry); l1 = now (l1 .entry); marking = now (marking .entry); w0 = now (w0 .entry); w1 = now (w1 .entry) })) ⌝ }
+    ensures words { λ r. ⌜ headerWords numbers signed l0 l1 marking w0 w1 .exit ≡ headerLeft (readHeader (tableOf (now (sequences .entry)) (now (pictures .entry))) kind (bitsOf (now (s .entry)))) (headerWords numbers signed l0 l1 marking w0 w1 .entry) ⌝ }
 {
+    empty_lists(numbers, signed, l0, l1, marking, w0, w1);
     let a = fill(
         s,
         kind,

@@ -4,7 +4,7 @@ use mathlib.Core.Path.{_≡_, ap, sym, _∙_}
 use mathlib.Core.List.{List, [], _∷_, _++_, flatMap, append-assoc, append-nil}
 use native.Mathlib.Omega.{arith}
 use native.Mathlib.Nat.{mul-suc}
-use lib.ListN.{length, set, length-append}
+use lib.ListN.{length, set, replicate, length-append, length-replicate, replicate-append-replicate}
 use lib.Seq.{sets}
 
 module _ {A : Type 0} where
@@ -12,9 +12,17 @@ module _ {A : Type 0} where
   sets-append t i [] m = ap (λ (k : ℕ). sets t k m) (omega arith)
   sets-append t i (a ∷ l) m = sets-append (set t i a) (suc i) l m ∙ ap (λ (k : ℕ). sets (sets (set t i a) (suc i) l) k m) (omega arith)
 
+  -- one word more of a run of equal words
+  pub same-next : (t : List A) (k : ℕ) (a : A) → set (sets t 0 (replicate k a)) k a ≡ sets t 0 (replicate (k + 1) a)
+  same-next t k a =
+      let n : 0 + length (replicate k a) ≡ k = omega (arith, length-replicate k a) in
+      ap (λ (i : ℕ). set (sets t 0 (replicate k a)) i a) (sym n)
+      ∙ sym (sets-append t 0 (replicate k a) (a ∷ []))
+      ∙ ap (λ (l : List A). sets t 0 l) (replicate-append-replicate k 1 a)
+
 -- entries of n words each
 module _ {A B : Type 0} (f : A → List B) (n : ℕ) where
-  length-flat : ((a : A) → length (f a) ≡ n) → (l : List A) → length (flatMap f l) ≡ n * length l
+  pub length-flat : ((a : A) → length (f a) ≡ n) → (l : List A) → length (flatMap f l) ≡ n * length l
   unfolding flatMap
   length-flat size [] = omega arith
   length-flat size (a ∷ l) = omega (arith, length-append (f a) (flatMap f l), size a, length-flat size l, mul-suc n (length l))

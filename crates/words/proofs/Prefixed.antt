@@ -47,42 +47,41 @@ module _ (there : Bool) (s : Bits) (at : ℕ) where
   all-got h g k = rw (h, g, k)
 
 -- an answer for what reading finds, and what is left in the words
-abbrev Answer : Res Prefix → PrefixStep → List ℕ → List ℕ → Type 0
-Answer m a before words = (a ≡ prefixStep m) × (words ≡ prefixLeft m before)
+abbrev Answer : Res Prefix → PrefixStep → List ℕ → Type 0
+Answer m a words = (a ≡ prefixStep m) × (words ≡ prefixLeft m)
 
-refused : {m : Res Prefix} {r : Refusal} {words : List ℕ} (before : List ℕ) → m ≡ no r → words ≡ replicate 198 0 → Answer m (PrefixStep.Refused r) before words
+refused : {m : Res Prefix} {r : Refusal} {words : List ℕ} → m ≡ no r → words ≡ replicate 198 0 → Answer m (PrefixStep.Refused r) words
 unfolding prefixStep leaves
-refused before e w = rw e (refl, w)
+refused e w = rw e (refl, w)
 
-read : {m : Res Prefix} {p : Prefix} {n e : ℕ} {words : List ℕ} (before : List ℕ) → m ≡ got p e → n ≡ p .«base_marking» .count → words ≡ sets before 0 (listWords (p .«base_marking»))
-    → Answer m (PrefixStep.Got (record { «store_ref_base_pic_flag» = p .«store_ref_base_pic_flag»; «base_markings» = n; «additional_prefix_nal_unit_extension_flag» = p .«additional_prefix_nal_unit_extension_flag» }) (record { at = e })) before words
+read : {m : Res Prefix} {p : Prefix} {n e : ℕ} {words : List ℕ} → m ≡ got p e → n ≡ p .«base_marking» .count → words ≡ sets (replicate 198 0) 0 (listWords (p .«base_marking»))
+    → Answer m (PrefixStep.Got (record { «store_ref_base_pic_flag» = p .«store_ref_base_pic_flag»; «base_markings» = n; «additional_prefix_nal_unit_extension_flag» = p .«additional_prefix_nal_unit_extension_flag» }) (record { at = e })) words
 unfolding prefixStep leaves
-read before e k w = rw (e, k) (refl, w)
+read e k w = rw (e, k) (refl, w)
 
-module _ (there : Bool) (s : Bits) (at : ℕ) (before : List ℕ) {a : FlagStep} (first : asFlag a ≡ flagIf there .read s at) where
-  pub store-refused : {r : Refusal} {words : List ℕ} → a ≡ FlagStep.Refused r → words ≡ replicate 198 0 → Answer (prefix there .read s at) (PrefixStep.Refused r) before words
-  store-refused g w = refused before (store-no there s at (sym first ∙ ap asFlag g)) w
+module _ (there : Bool) (s : Bits) (at : ℕ) {zeroed : List ℕ} (zeros : zeroed ≡ replicate 198 0) {a : FlagStep} (first : asFlag a ≡ flagIf there .read s at) where
+  pub store-refused : {r : Refusal} → a ≡ FlagStep.Refused r → Answer (prefix there .read s at) (PrefixStep.Refused r) zeroed
+  store-refused g = refused (store-no there s at (sym first ∙ ap asFlag g)) zeros
 
   module _ {f : MarkedFlag} {c : Cursor} (got1 : a ≡ FlagStep.Got f c) {k : Kind} (kind : k ≡ baseMarkingKind) {b : ListStep} {words : List ℕ}
-      (second : b ≡ listStep (operationsIf (f .value) k .read s (c .at))) (left : words ≡ listLeft (operationsIf (f .value) k .read s (c .at)) before) where
+      (second : b ≡ listStep (operationsIf (f .value) k .read s (c .at))) (left : words ≡ listLeft (operationsIf (f .value) k .read s (c .at)) zeroed) where
     same : operationsIf (f .value) baseMarkingKind .read s (c .at) ≡ operationsIf (f .value) k .read s (c .at)
     same = ap (λ (x : Kind). operationsIf (f .value) x .read s (c .at)) (sym kind)
 
-    pub marking-refused : {r : Refusal} → b ≡ ListStep.Refused r → Answer (prefix there .read s at) (PrefixStep.Refused r) before words
+    pub marking-refused : {r : Refusal} → b ≡ ListStep.Refused r → Answer (prefix there .read s at) (PrefixStep.Refused r) words
     marking-refused g =
         refused
-        before
         (marking-no there s at (sym first ∙ ap asFlag got1) (same ∙ list-refused (operationsIf (f .value) k .read s (c .at)) second g))
-        (list-cleared (operationsIf (f .value) k .read s (c .at)) before second left g)
+        (list-cleared (operationsIf (f .value) k .read s (c .at)) zeroed second left g)
 
     module _ {n : ℕ} {d : Cursor} (got2 : b ≡ ListStep.Got n d) {x : FlagStep} (third : asFlag x ≡ flagIf there .read s (d .at)) where
-      pub more-refused : {r : Refusal} {cleared : List ℕ} → x ≡ FlagStep.Refused r → cleared ≡ replicate 198 0 → Answer (prefix there .read s at) (PrefixStep.Refused r) before cleared
+      pub more-refused : {r : Refusal} {cleared : List ℕ} → x ≡ FlagStep.Refused r → cleared ≡ replicate 198 0 → Answer (prefix there .read s at) (PrefixStep.Refused r) cleared
       more-refused g w =
           let l = list-read (operationsIf (f .value) k .read s (c .at)) second left got2 in
-          refused before (more-no there s at (sym first ∙ ap asFlag got1) (same ∙ l .read) (sym third ∙ ap asFlag g)) w
+          refused (more-no there s at (sym first ∙ ap asFlag got1) (same ∙ l .read) (sym third ∙ ap asFlag g)) w
 
       pub prefix-read : {m : MarkedFlag} {e : Cursor} → x ≡ FlagStep.Got m e
-          → Answer (prefix there .read s at) (PrefixStep.Got (record { «store_ref_base_pic_flag» = f; «base_markings» = n; «additional_prefix_nal_unit_extension_flag» = m }) e) before words
+          → Answer (prefix there .read s at) (PrefixStep.Got (record { «store_ref_base_pic_flag» = f; «base_markings» = n; «additional_prefix_nal_unit_extension_flag» = m }) e) words
       prefix-read g =
           let l = list-read (operationsIf (f .value) k .read s (c .at)) second left got2 in
-          read before (all-got there s at (sym first ∙ ap asFlag got1) (same ∙ l .read) (sym third ∙ ap asFlag g)) (l .counted) (l .held)
+          read (all-got there s at (sym first ∙ ap asFlag got1) (same ∙ l .read) (sym third ∙ ap asFlag g)) (l .counted) (rw (← zeros) (l .held))

@@ -1,9 +1,11 @@
 -- A list in lent words: what reading it answers, and what it leaves in them.
-use Prim.Native.Nat.{ℕ}
+use Prim.Native.Nat.{ℕ, _*_}
 use mathlib.Core.List.{List, [], _∷_, flatMap}
+use lib.Dec.{leb}
 use lib.ListN.{replicate}
+use lib.Seq.{sets}
 use Rattle.bits.specs.declared.refusals.Refusal.{Refusal}
-use Rattle.bits.specs.Refusals.{Res, got, no}
+use Rattle.bits.specs.Refusals.{Res, got, no, pick}
 use Rattle.bits.specs.Answers.{none}
 use Rattle.syntax.specs.declared.record.Operations.{Operations}
 use Rattle.syntax.specs.declared.record.Prefix.{Prefix}
@@ -32,6 +34,14 @@ abbrev pub whyList : ListStep → Refusal
 whyList (ListStep.Got n c) = none
 whyList (ListStep.Refused r) = r
 
+-- a count over 66, the most that a list holds, counts as 66
+unfoldable pub atMost66 : ℕ → ℕ
+atMost66 n = pick (leb n 66) n 66
+
+-- the entries that a count says are in use are zeroed, and no more
+unfoldable pub emptiedList : ℕ → List ℕ → List ℕ
+emptiedList count words = sets words 0 (replicate (3 * atMost66 count) 0)
+
 -- a prefix without its list
 abbrev pub prefixShort : Prefix → PrefixShort
 prefixShort p =
@@ -45,5 +55,6 @@ unfoldable pub prefixStep : Res Prefix → PrefixStep
 prefixStep (got p e) = PrefixStep.Got (prefixShort p) (record { at = e })
 prefixStep (no r) = PrefixStep.Refused r
 
-abbrev pub prefixLeft : Res Prefix → List ℕ → List ℕ
-prefixLeft = leaves (replicate 198 0) (λ p. listWords (p .«base_marking»))
+-- its list stands over zeros, whatever the words were: no word says how many of them were in use
+abbrev pub prefixLeft : Res Prefix → List ℕ
+prefixLeft m = leaves (replicate 198 0) (λ p. listWords (p .«base_marking»)) m (replicate 198 0)

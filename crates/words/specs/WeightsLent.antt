@@ -1,14 +1,17 @@
 -- The table read into lent words: eight an entry, in the syntax's order, with flags as 0 and 1.
+use Prim.Native.Nat.{ℕ, _*_}
 use mathlib.Core.Bool.{Bool}
 use mathlib.Core.List.{List, [], _∷_, flatMap}
 use lib.IntN.{ℤ, pos}
 use lib.ListN.{take, replicate}
+use lib.Seq.{sets}
 use Rattle.bits.specs.Refusals.{Res, got, no, pick}
 use Rattle.bits.specs.Answers.{none}
 use Rattle.bits.specs.declared.refusals.Refusal.{Refusal}
 use Rattle.syntax.specs.declared.record.Weight.{Weight}
 use Rattle.syntax.specs.declared.record.WeightList.{WeightList}
 use Rattle.syntax.specs.declared.record.PredWeightTable.{PredWeightTable}
+use Rattle.weights.specs.Counts.{atMost32}
 use Rattle.words.specs.Leaves.{leaves}
 use Rattle.words.specs.declared.weight_words.WeightsShort.{WeightsShort}
 use Rattle.words.specs.declared.weight_words.WeightsStep.{WeightsStep}
@@ -29,6 +32,10 @@ weightWords l = flatMap entryWords (take (l .count) (l .entries))
 -- what is left in a list's words
 abbrev pub weightsLeft : (PredWeightTable → WeightList) → Res PredWeightTable → List ℤ → List ℤ
 weightsLeft list = leaves (replicate 256 (pos 0)) (λ t. weightWords (list t))
+
+-- the entries that a count says are in use are zeroed, and no more
+unfoldable pub emptiedWeights : ℕ → List ℤ → List ℤ
+emptiedWeights count words = sets words 0 (replicate (8 * atMost32 count) (pos 0))
 
 abbrev pub weightsShort : PredWeightTable → WeightsShort
 weightsShort t =

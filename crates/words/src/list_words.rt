@@ -1,4 +1,4 @@
-// A list read into words that the caller lends: three words an entry, its code and its two operands. No list is copied, and words behind the last entry stay as they were.
+// A list read into words that the caller lends: three words an entry, its code and its two operands. No list is copied, and words behind the last entry stay as they were: `empty_list` makes them zeros.
 use bits::read::Cursor;
 use bits::read::Read;
 use bits::read::why;
@@ -22,7 +22,7 @@ ghost use Rattle.syntax.specs.Lists.{operations, operationsIf};
 ghost use Rattle.syntax.specs.Prefix.{baseMarkingKind, prefix};
 ghost use Rattle.lists.specs.Kinds.{kindOf};
 ghost use Rattle.words.specs.Leaves.{Written};
-ghost use Rattle.words.specs.ListsLent.{listWords, listStep, listLeft, whyList, prefixStep, prefixLeft};
+ghost use Rattle.words.specs.ListsLent.{listWords, listStep, listLeft, whyList, atMost66, emptiedList, prefixStep, prefixLeft};
 
 // The count, and the place after the closing code; the list stands in the words.
 pub enum ListStep {
@@ -48,6 +48,31 @@ pub fn clear_list(words: &mut [u32; 198])
     *words = [0; 198];
 }
 
+// A count over 66 counts as 66.
+fn at_most_66(n: u32) -> u32
+    ensures { λ r. ⌜ r ≡ atMost66 n ⌝ }
+{
+    if n <= 66 { n } else { 66 }
+}
+
+// The entries that a count says are in use become zeros; no other word is touched, so that an empty list costs a test.
+pub fn empty_list(words: &mut [u32; 198], count: u32)
+    ensures { λ _. ⌜ now (words .exit) ≡ emptiedList count (now (words .entry)) ⌝ }
+{
+    let end = 3 * at_most_66(count) as usize;
+    let mut k: usize = 0;
+    while k < end {
+        words[k] = 0;
+        k += 1;
+    }
+}
+
+// A list that has been read: its count, and the place after the closing code.
+struct Filled {
+    count: u32,
+    at: Cursor,
+}
+
 // The loop of `operations`. After a refusal the words hold what was read before it.
 fn fill(s: &[u8], c: Cursor, kind: ListKind, words: &mut [u32; 198]) -> ListStep
     ensures { λ r. ⌜ r ≡ listStep (operations (kindOf kind) .read (bitsOf (now (s .entry))) (c .at)) ⌝ }
@@ -55,14 +80,13 @@ fn fill(s: &[u8], c: Cursor, kind: ListKind, words: &mut [u32; 198]) -> ListStep
 {
     let mut count: u32 = 0;
     let mut at = c;
-    loop {
+    let got = loop {
         let a = tested(s, at, kind.greatest, kind.number);
         let Read::Got(code, c1) = a else {
             return ListStep::Refused(why(a));
         };
         if code == kind.closing {
-            at = c1;
-            break;
+            break Filled { count, at: c1 };
         }
         if 66 <= count {
             return ListStep::Refused(refuse(LIST_FULL, 0, at.at));
@@ -81,8 +105,9 @@ fn fill(s: &[u8], c: Cursor, kind: ListKind, words: &mut [u32; 198]) -> ListStep
         words[k + 2] = y;
         count += 1;
         at = c3;
-    }
-    ListStep::Got(count, at)
+    };
+    let end = got.at;
+    ListStep::Got(got.count, end)
 }
 
 // A list that is there only under a condition. The words stay as they were where there is none, and are zeros beside a refusal.
@@ -131,14 +156,14 @@ fn base_marking_kind() -> ListKind
     }
 }
 
-// The body of a prefix unit, there only under a condition. The words stay as they were where it has no list, and are zeros beside a refusal.
+// The body of a prefix unit, there only under a condition. Words that hold no entry of its list are zeros, and so are all beside a refusal.
 pub fn prefix_into(s: &[u8], c: Cursor, there: bool, words: &mut [u32; 198]) -> PrefixStep
     ensures { λ r. ⌜ r ≡ prefixStep (prefix there .read (bitsOf (now (s .entry))) (c .at)) ⌝ }
-    ensures { λ r. ⌜ now (words .exit) ≡ prefixLeft (prefix there .read (bitsOf (now (s .entry))) (c .at)) (now (words .entry)) ⌝ }
+    ensures { λ r. ⌜ now (words .exit) ≡ prefixLeft (prefix there .read (bitsOf (now (s .entry))) (c .at)) ⌝ }
 {
+    clear_list(words);
     let a1 = flag_if(s, c, there);
     let FlagStep::Got(store, c1) = a1 else {
-        clear_list(words);
         return PrefixStep::Refused(why_flag(a1));
     };
     let a2 = operations_into(s, c1, store.value, base_marking_kind(), words);

@@ -27,7 +27,7 @@ ghost use Rattle.bits.specs.Bits.{bitsOf};
 ghost use Rattle.syntax.specs.SliceHeader.{weightList, predWeightTable};
 ghost use Rattle.weights.specs.Counts.{atMost32};
 ghost use Rattle.words.specs.Leaves.{Written};
-ghost use Rattle.words.specs.WeightsLent.{flagWord, entryWords, weightWords, weightsLeft, weightsStep, whyWeights, listStep, whyList};
+ghost use Rattle.words.specs.WeightsLent.{flagWord, entryWords, weightWords, weightsLeft, emptiedWeights, weightsStep, whyWeights, listStep, whyList};
 
 // The table without its entries: l0 and l1 are their counts. An entry is eight words, in the syntax's order, with flags as 0 and 1.
 #[repr(C)]
@@ -81,6 +81,18 @@ pub fn clear_weights(words: &mut [i32; 256])
     ensures { λ _. ⌜ now (words .exit) ≡ replicate 256 (pos 0) ⌝ }
 {
     *words = [0; 256];
+}
+
+// As `empty_list`, for the eight words of an entry.
+pub fn empty_weights(words: &mut [i32; 256], count: u32)
+    ensures { λ _. ⌜ now (words .exit) ≡ emptiedWeights count (now (words .entry)) ⌝ }
+{
+    let end = 8 * at_most_32(count) as usize;
+    let mut k: usize = 0;
+    while k < end {
+        words[k] = 0;
+        k += 1;
+    }
 }
 
 fn flag_word(b: bool) -> i32

@@ -159,11 +159,11 @@ loop-again c =
 
 returns-5 : tie.Need-returns-5 Inv-loop μ-loop
 returns-5 c =
-    let g = c .before .before .before .before .before .before .before .before .args in
-    let l = c .before .before .before .before .before .before .loop .inv in
-    let t = c .before .before .before .before .before .tested in
-    let v = c .before .before .before .a .given in
-    fill-ended _ (l .front) (ended (g .kind) (bitsOf (g .s .now)) (g .c .at) (l .reading) (t .result) (t .ensures) (v .0 .0) (v .0 .1 .0) (v .1) (c .if1 .taken))
+    let g = c .before .before .before .before .before .before .before .before .before .args in
+    let l = c .before .before .before .before .before .before .before .loop .inv in
+    let t = c .before .before .before .before .before .before .tested in
+    let v = c .before .before .before .before .a .given in
+    fill-ended _ (l .front) (ended (g .kind) (bitsOf (g .s .now)) (g .c .at) (l .reading) (t .result) (t .ensures) (v .0 .0) (v .0 .1 .0) (v .1) (c .before .if1 .taken))
 
 pub fill-spec : {M : Type 1} → statement M
 fill-spec =

@@ -20,7 +20,7 @@ why-flag-requires : tie.Need-why-flag-requires
 why-flag-requires c κs = search needs
 
 returns : tie.Need-returns
-returns c = let g = c .before .before .before .before .before .before .before .args in rw (c .why-flag .ensures, c .before .before .before .enum-told .given .1) (store-refused (g .there) (bitsOf (g .s .now)) (g .c .at) (g .words .now) (c .before .before .before .before .before .flag-if .ensures) (c .before .before .before .enum-told .given .1) (c .before .clear-list .ensures))
+returns c = let g = c .before .before .before .before .before .before .before .args in rw (c .why-flag .ensures, c .before .enum-told .given .1) (store-refused (g .there) (bitsOf (g .s .now)) (g .c .at) (c .before .before .before .before .clear-list .ensures) (c .before .before .before .flag-if .ensures) (c .before .enum-told .given .1))
 
 base-marking-kind-requires : tie.Need-base-marking-kind-requires
 base-marking-kind-requires c κs = search needs
@@ -38,7 +38,7 @@ why-list-requires : tie.Need-why-list-requires
 why-list-requires c κs = search needs
 
 returns-2 : tie.Need-returns-2
-returns-2 c = let g = c .before .before .before .before .before .before .before .before .before .before .before .args in rw (c .why-list .ensures, c .before .enum-told2 .given .1) (marking-refused (g .there) (bitsOf (g .s .now)) (g .c .at) (g .words .now) (c .before .before .before .before .before .before .before .before .before .flag-if .ensures) (c .before .before .before .before .before .before .before .a1 .given .1) (c .before .before .before .before .before .base-marking-kind .ensures) (c .before .before .before .operations-into .ensures .0) (c .before .before .before .operations-into .ensures .1) (c .before .enum-told2 .given .1))
+returns-2 c = let g = c .before .before .before .before .before .before .before .before .before .before .before .before .before .args in rw (c .why-list .ensures, c .before .enum-told2 .given .1) (marking-refused (g .there) (bitsOf (g .s .now)) (g .c .at) (c .before .before .before .before .before .before .before .before .before .before .clear-list .ensures) (c .before .before .before .before .before .before .before .before .before .flag-if .ensures) (c .before .before .before .before .before .before .before .a1 .given .1) (c .before .before .before .before .before .base-marking-kind .ensures) (c .before .before .before .operations-into .ensures .0) (c .before .before .before .operations-into .ensures .1) (c .before .enum-told2 .given .1))
 
 flag-if-requires-2 : tie.Need-flag-if-requires-2
 flag-if-requires-2 c κs = search needs
@@ -56,19 +56,19 @@ why-flag-requires-2 : tie.Need-why-flag-requires-2
 why-flag-requires-2 c κs = search needs
 
 returns-3 : tie.Need-returns-3
-returns-3 c = let g = c .before .before .before .before .before .before .before .before .before .before .before .before .before .before .before .before .before .args in rw (c .why-flag2 .ensures, c .before .before .before .enum-told3 .given .1) (more-refused (g .there) (bitsOf (g .s .now)) (g .c .at) (g .words .now) (c .before .before .before .before .before .before .before .before .before .before .before .before .before .before .before .flag-if .ensures) (c .before .before .before .before .before .before .before .before .before .before .before .before .before .a1 .given .1) (c .before .before .before .before .before .before .before .before .before .before .before .base-marking-kind .ensures) (c .before .before .before .before .before .before .before .before .before .operations-into .ensures .0) (c .before .before .before .before .before .before .before .before .before .operations-into .ensures .1) (c .before .before .before .before .before .before .before .a2 .given .1) (c .before .before .before .before .before .flag-if2 .ensures) (c .before .before .before .enum-told3 .given .1) (c .before .clear-list2 .ensures))
+returns-3 c = let g = c .before .before .before .before .before .before .before .before .before .before .before .before .before .before .before .before .before .before .before .args in rw (c .why-flag2 .ensures, c .before .before .before .enum-told3 .given .1) (more-refused (g .there) (bitsOf (g .s .now)) (g .c .at) (c .before .before .before .before .before .before .before .before .before .before .before .before .before .before .before .before .clear-list .ensures) (c .before .before .before .before .before .before .before .before .before .before .before .before .before .before .before .flag-if .ensures) (c .before .before .before .before .before .before .before .before .before .before .before .before .before .a1 .given .1) (c .before .before .before .before .before .before .before .before .before .before .before .base-marking-kind .ensures) (c .before .before .before .before .before .before .before .before .before .operations-into .ensures .0) (c .before .before .before .before .before .before .before .before .before .operations-into .ensures .1) (c .before .before .before .before .before .before .before .a2 .given .1) (c .before .before .before .before .before .flag-if2 .ensures) (c .before .before .before .enum-told3 .given .1) (c .before .clear-list2 .ensures))
 
 returns-4 : tie.Need-returns-4
-returns-4 c = let g = c .before .before .before .before .before .before .before .before .before .before .before .before .before .before .before .args in prefix-read (g .there) (bitsOf (g .s .now)) (g .c .at) (g .words .now) (c .before .before .before .before .before .before .before .before .before .before .before .before .before .flag-if .ensures) (c .before .before .before .before .before .before .before .before .before .before .before .a1 .given .1) (c .before .before .before .before .before .before .before .before .before .base-marking-kind .ensures) (c .before .before .before .before .before .before .before .operations-into .ensures .0) (c .before .before .before .before .before .before .before .operations-into .ensures .1) (c .before .before .before .before .before .a2 .given .1) (c .before .before .before .flag-if2 .ensures) (c .before .a3 .given .1)
+returns-4 c = let g = c .before .before .before .before .before .before .before .before .before .before .before .before .before .before .before .before .before .args in prefix-read (g .there) (bitsOf (g .s .now)) (g .c .at) (c .before .before .before .before .before .before .before .before .before .before .before .before .before .before .clear-list .ensures) (c .before .before .before .before .before .before .before .before .before .before .before .before .before .flag-if .ensures) (c .before .before .before .before .before .before .before .before .before .before .before .a1 .given .1) (c .before .before .before .before .before .before .before .before .before .base-marking-kind .ensures) (c .before .before .before .before .before .before .before .operations-into .ensures .0) (c .before .before .before .before .before .before .before .operations-into .ensures .1) (c .before .before .before .before .before .a2 .given .1) (c .before .before .before .flag-if2 .ensures) (c .before .a3 .given .1)
 
 pub prefix-into-spec : {M : Type 1} → statement M
 prefix-into-spec =
     tie.close
     (tie.spec
+    clear-list-requires
     flag-if-requires
     enum-known-a1
     enum-told
-    clear-list-requires
     why-flag-requires
     returns
     base-marking-kind-requires
