@@ -2,10 +2,12 @@
 use lib.IntN.{pos}
 use Rattle.bits.specs.declared.refusals.Refusal.{Refusal}
 use Rattle.walk.specs.declared.walk.Step.{Step}
-use Rattle.walk.specs.declared.walk.Walked.{Walked}
+use Rattle.walk.specs.Walked.{Walked}
+use Rattle.lent.specs.declared.whole.ShortAnswer.{ShortAnswer}
+use Rattle.lent.specs.Lent.{shortAnswer}
 use Rattle.exports.specs.declared.walks.WalkOut.{WalkOut}
 use Rattle.exports.specs.declared.walks.Came.{Came}
-use Rattle.exports.specs.Units.{unitOut}
+use Rattle.exports.specs.Units.{told}
 
 -- 0, the end; 1, a unit, with its place, its length and the place to go on from; 2, refused, with number and value
 unfoldable pub came : Step → Came
@@ -14,7 +16,10 @@ came Step.End = record { step = 0; number = 0; value = pos 0; place = 0; length 
 came (Step.Refused w) = record { step = 2; number = w .number; value = w .value; place = 0; length = 0; next = 0 }
 
 -- the step so, beside what reading the unit answers
-unfoldable pub walkOut : Walked → WalkOut
-walkOut w =
-    let c = came (w .step) in
-    record { step = c .step; number = c .number; value = c .value; place = c .place; length = c .length; next = c .next; read = unitOut (w .read) }
+unfoldable pub walkTold : Step → ShortAnswer → WalkOut
+walkTold s a =
+    let c = came s in
+    record { step = c .step; number = c .number; value = c .value; place = c .place; length = c .length; next = c .next; read = told a }
+
+abbrev pub walkOut : Walked → WalkOut
+walkOut w = walkTold (w .step) (shortAnswer (w .read))

@@ -1,6 +1,10 @@
 // What other languages call, over the static library: `rt staticlib exports`. Numbers, slices and `#[repr(C)]` structs alone cross this boundary.
+pub mod layout; // its number
 pub mod ue_run; // a run of codes
 pub mod sets; // the parameter table
+pub mod starts; // what a unit starts with
 pub mod units; // whole units
 pub mod walks; // the walk over a recording
+pub mod listings; // the lines of a listing
+pub mod quants; // QP and QS
 pub mod writes; // writing a header

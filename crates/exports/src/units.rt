@@ -27,7 +27,7 @@ pub struct ReadOut {
     pub prefix: PrefixShort,
 }
 
-fn no_prefix() -> PrefixShort
+pub(crate) fn no_prefix() -> PrefixShort
     ensures { λ r. ⌜ r ≡ prefixShort noPrefix ⌝ }
 {
     let flag = MarkedFlag {

@@ -3,14 +3,13 @@ use crate::units::ReadOut;
 use crate::units::tell;
 use bits::refusals::Refusal;
 use lent::whole::ShortAnswer;
-use lent::whole::read_unit_into;
 use walk::walk::Step;
-use walk::walk::next_step;
+use walk::walk::walk_into;
 ghost use mathlib.Core.Path.{_≡_};
 ghost use Rattle.header.specs.Lead.{tableOf};
-ghost use Rattle.walk.specs.Walked.{nothing, walked};
+ghost use Rattle.walk.specs.Walked.{walked};
 ghost use Rattle.lent.specs.Lent.{lentWords, wordsAfter};
-ghost use Rattle.exports.specs.Walks.{came, walkOut};
+ghost use Rattle.exports.specs.Walks.{came, walkTold, walkOut};
 
 // A step of the walk. What it does not speak of is zero.
 #[repr(C)]
@@ -69,12 +68,11 @@ fn come(s: Step) -> Came
     }
 }
 
-// A step at which nothing is read.
-fn no_unit(s: Step) -> WalkOut
-    ensures { λ r. ⌜ r ≡ walkOut (nothing s) ⌝ }
+fn walk_told(s: Step, a: ShortAnswer) -> WalkOut
+    ensures { λ r. ⌜ r ≡ walkTold s a ⌝ }
 {
     let c = come(s);
-    let read = tell(ShortAnswer::Other(0));
+    let read = tell(a);
     WalkOut {
         step: c.step,
         number: c.number,
@@ -106,15 +104,11 @@ pub extern "C" fn tuz_walk<'a>(
     ensures { λ r. ⌜ (r ≡ walkOut (walked (tableOf (now (sequences .entry)) (now (pictures .entry))) (now (recording .entry)) from (now (scratch .entry)) .walked)) × (now (scratch .exit) ≡ walked (tableOf (now (sequences .entry)) (now (pictures .entry))) (now (recording .entry)) from (now (scratch .entry)) .left) ⌝ }
     ensures words { λ r. ⌜ lentWords numbers signed l0 l1 marking w0 w1 base .exit ≡ wordsAfter (walked (tableOf (now (sequences .entry)) (now (pictures .entry))) (now (recording .entry)) from (now (scratch .entry)) .walked .read) (lentWords numbers signed l0 l1 marking w0 w1 base .entry) ⌝ }
 {
-    let step = next_step(recording, from);
-    let Step::Unit(place, length, next) = step else {
-        return no_unit(step);
-    };
-    let end = place + length;
-    let read = tell(read_unit_into(
+    let w = walk_into(
         sequences,
         pictures,
-        &recording[place..end],
+        recording,
+        from,
         scratch,
         numbers,
         signed,
@@ -124,14 +118,8 @@ pub extern "C" fn tuz_walk<'a>(
         w0,
         w1,
         base,
-    ));
-    WalkOut {
-        step: 1,
-        number: 0,
-        value: 0,
-        place,
-        length,
-        next,
-        read,
-    }
+    );
+    let step = w.step;
+    let answer = w.answer;
+    walk_told(step, answer)
 }

@@ -2,3 +2,4 @@ pub mod Texts
 pub mod Decimals
 pub mod Magnitudes
 pub mod Levels
+pub mod Lent

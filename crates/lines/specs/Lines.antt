@@ -3,28 +3,20 @@ use Prim.Native.Nat.{ℕ, _≤_}
 use mathlib.Core.Path.{_≡_}
 use mathlib.Core.List.{List, _++_}
 use mathlib.Core.Bool.{Bool, true, false}
-use lib.IntN.{ℤ, pos, _+ℤ_}
-use lib.ListN.{length}
+use lib.IntN.{ℤ, pos}
+use lib.ListN.{length, getD}
 use lib.Seq.{sets}
 use Rattle.bits.specs.Refusals.{pick}
 use Rattle.bits.specs.declared.refusals.Refusal.{Refusal}
 use Rattle.nal.specs.declared.extension.NalHeaderExtension.{NalHeaderExtension}
 use Rattle.nal.specs.declared.extension.ExtensionRead.{ExtensionRead}
 use Rattle.nal.specs.Extension.{extensionOf}
-use Rattle.table.specs.Tables as tables
 use Rattle.syntax.specs.declared.record.SliceHeader.{SliceHeader}
-use Rattle.syntax.specs.Context.{pictureIn}
 use Rattle.unit.specs.declared.answer.UnitAnswer.{UnitAnswer}
 use Rattle.unit.specs.declared.answer.UnitRead.{UnitRead}
+use Rattle.lent.specs.declared.whole.ShortAnswer.{ShortAnswer}
+use Rattle.lines.specs.Level.{finalQp}
 use Rattle.lines.specs.Text.{words, signed, field}
-
--- pic_init_qp_minus26 of a picture set; `pictures` is the table's array of picture sets
-unfoldable pub initQp : List ℕ → ℕ → ℤ
-initQp pictures id = pictureIn (tables.pictureIn pictures id) .«pic_init_qp_minus26»
-
--- QP of a slice, by its picture set id and its slice_qp_delta
-abbrev pub qpOf : List ℕ → ℕ → ℤ → ℤ
-qpOf pictures id delta = pos 26 +ℤ initQp pictures id +ℤ delta
 
 -- the extension is SVC's; a prefix unit has one
 abbrev pub svcIn : ExtensionRead → Bool
@@ -51,20 +43,31 @@ refusedText r = field " refused " (r .number) ++ words " value=" ++ signed (r .v
 
 abbrev pub textOf : List ℕ → List ℕ → SliceHeader → UnitAnswer → List ℕ
 textOf pictures unit h (UnitAnswer.Slice bits) =
-    sliceText (h .«slice_type») (h .frame .«frame_num») (qpOf pictures (h .«pic_parameter_set_id») (h .quantiser .«slice_qp_delta»))
+    sliceText (h .«slice_type») (h .frame .«frame_num») (finalQp pictures (h .«pic_parameter_set_id») (h .quantiser .«slice_qp_delta»))
 textOf pictures unit h UnitAnswer.«Prefix» = prefixText (isSvc unit)
 textOf pictures unit h (UnitAnswer.Other id) = otherText id
 textOf pictures unit h (UnitAnswer.Refused r) = refusedText r
 
-abbrev pub answerText : List ℕ → List ℕ → UnitRead → List ℕ
-answerText pictures unit read = textOf pictures unit (read .header) (read .answer)
+-- the same where the header stands in lent words: of its numbers 1 is slice_type, 2 pic_parameter_set_id and 6 frame_num, of its signed numbers 3 slice_qp_delta
+abbrev pub lentText : List ℕ → List ℕ → List ℕ → List ℤ → ShortAnswer → List ℕ
+lentText pictures unit numbers signed (ShortAnswer.Slice bits) =
+    sliceText (getD numbers 1 0) (getD numbers 6 0) (finalQp pictures (getD numbers 2 0) (getD signed 3 (pos 0)))
+lentText pictures unit numbers signed (ShortAnswer.«Prefix» p) = prefixText (isSvc unit)
+lentText pictures unit numbers signed (ShortAnswer.Other id) = otherText id
+lentText pictures unit numbers signed (ShortAnswer.Refused r) = refusedText r
 
--- ---- the lines
+-- ---- the lines; `pictures` is the table's array of picture sets
 
--- a unit's place, its bytes and what reading it answered
+-- a unit's place, its length and what reading it answered
+abbrev pub lineOf : ℕ → ℕ → List ℕ → List ℕ
+lineOf place size text = field "unit place=" place ++ field " length=" size ++ text ++ words "\n"
+
 unfoldable pub unitLine : List ℕ → ℕ → List ℕ → UnitRead → List ℕ
-unitLine pictures place unit read =
-    field "unit place=" place ++ field " length=" (length unit) ++ answerText pictures unit read ++ words "\n"
+unitLine pictures place unit read = lineOf place (length unit) (textOf pictures unit (read .header) (read .answer))
+
+-- the same with the length given, and the header in lent words; of the unit's bytes a prefix unit's extension alone is looked at
+unfoldable pub lentLine : List ℕ → ℕ → ℕ → List ℕ → ShortAnswer → List ℕ → List ℤ → List ℕ
+lentLine pictures place size unit answer numbers signed = lineOf place size (lentText pictures unit numbers signed answer)
 
 -- how many units there were, and how many of them were refused
 unfoldable pub endLine : ℕ → ℕ → List ℕ

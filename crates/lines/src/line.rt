@@ -1,36 +1,17 @@
 // The lines. A line of a unit takes at most 59 bytes to the end of its length, and at most 127 before the newline.
+use crate::level::final_qp;
 use crate::text::field;
 use crate::text::signed_number;
 use crate::text::words;
 use bits::refusals::Refusal;
+use lent::whole::ShortAnswer;
 use nal::extension::ExtensionRead;
 use nal::extension::NalHeaderExtension;
 use nal::extension::extension_of;
-use table::words::FoundPicture;
-use table::words::picture_in;
-use unit::answer::UnitAnswer;
-use unit::answer::UnitRead;
 ghost use mathlib.Core.Path.{_≡_};
 ghost use Prim.Native.Nat.{_≤_};
 ghost use Rattle.lines.specs.Text.{Put};
-ghost use Rattle.lines.specs.Lines.{initQp, qpOf, isSvc, sliceText, prefixText, refusedText, answerText, unitLine, endLine, tooLongLine, Written};
-
-// pic_init_qp_minus26 of the picture set that a header names; 0 where the table has none.
-fn init_qp(pictures: &[u32; 2048], id: u32) -> i32
-    ensures { λ r. ⌜ r ≡ initQp (now (pictures .entry)) id ⌝ }
-{
-    match picture_in(pictures, id) {
-        FoundPicture::There(p) => p.pic_init_qp_minus26,
-        FoundPicture::Absent => 0,
-    }
-}
-
-// QP, in 64 bits, which hold the sum of any numbers of 32.
-fn qp(pictures: &[u32; 2048], id: u32, delta: i32) -> i64
-    ensures { λ r. ⌜ r ≡ qpOf (now (pictures .entry)) id delta ⌝ }
-{
-    26 + init_qp(pictures, id) as i64 + delta as i64
-}
+ghost use Rattle.lines.specs.Lines.{isSvc, sliceText, prefixText, refusedText, lentText, lentLine, endLine, tooLongLine, Written};
 
 // Whether a unit's extension is SVC's.
 fn is_svc(unit: &[u8]) -> bool
@@ -75,45 +56,47 @@ fn refused_words(d: &mut [u8; 128], at: usize, r: Refusal) -> usize
     signed_number(d, b, v)
 }
 
-// What reading a unit answers.
+// What reading a unit answers; a slice's header stands in the words.
 fn answer_words(
     d: &mut [u8; 128],
     at: usize,
     pictures: &[u32; 2048],
     unit: &[u8],
-    read: UnitRead,
+    answer: ShortAnswer,
+    numbers: &[u32; 57],
+    signed: &[i32; 7],
 ) -> usize
     requires { ⌜ at ≤ 59 ⌝ }
-    ensures { λ r. ⌜ Put (now (d .entry)) at (answerText (now (pictures .entry)) (now (unit .entry)) read) r (now (d .exit)) × (r ≤ 127) ⌝ }
+    ensures { λ r. ⌜ Put (now (d .entry)) at (lentText (now (pictures .entry)) (now (unit .entry)) (now (numbers .entry)) (now (signed .entry)) answer) r (now (d .exit)) × (r ≤ 127) ⌝ }
 {
-    let answer = read.answer;
     match answer {
-        UnitAnswer::Slice(_) => {
-            let h = read.header;
-            let f = h.frame;
-            let q = h.quantiser;
-            let level = qp(pictures, h.pic_parameter_set_id, q.slice_qp_delta);
-            slice_words(d, at, h.slice_type, f.frame_num, level)
+        ShortAnswer::Slice(_) => {
+            let qp = final_qp(pictures, numbers[2], signed[3]);
+            slice_words(d, at, numbers[1], numbers[6], qp)
         }
-        UnitAnswer::Prefix => prefix_words(d, at, is_svc(unit)),
-        UnitAnswer::Other(id) => field(d, at, b" other type=", id as u64),
-        UnitAnswer::Refused(r) => refused_words(d, at, r),
+        ShortAnswer::Prefix(_) => prefix_words(d, at, is_svc(unit)),
+        ShortAnswer::Other(id) => field(d, at, b" other type=", id as u64),
+        ShortAnswer::Refused(r) => refused_words(d, at, r),
     }
 }
 
-// A unit's line: its place, its length, and what reading it answered.
+// A unit's line: its place, its length, and what reading it answered. Of its bytes a prefix unit's extension alone is looked at, so that those of a unit that is too
+// long need not be at hand.
 pub fn unit_line(
     line: &mut [u8; 128],
     pictures: &[u32; 2048],
     place: usize,
+    length: usize,
     unit: &[u8],
-    read: UnitRead,
+    answer: ShortAnswer,
+    numbers: &[u32; 57],
+    signed: &[i32; 7],
 ) -> usize
-    ensures { λ r. ⌜ Written (unitLine (now (pictures .entry)) place (now (unit .entry)) read) (now (line .entry)) r (now (line .exit)) ⌝ }
+    ensures { λ r. ⌜ Written (lentLine (now (pictures .entry)) place length (now (unit .entry)) answer (now (numbers .entry)) (now (signed .entry))) (now (line .entry)) r (now (line .exit)) ⌝ }
 {
     let a = field(line, 0, b"unit place=", place as u64);
-    let b = field(line, a, b" length=", unit.len() as u64);
-    let c = answer_words(line, b, pictures, unit, read);
+    let b = field(line, a, b" length=", length as u64);
+    let c = answer_words(line, b, pictures, unit, answer, numbers, signed);
     words(line, c, b"\n")
 }
 

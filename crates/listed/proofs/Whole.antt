@@ -2,7 +2,7 @@
 use mathlib.Core.Path.{_≡_, refl, sym, ap, ap₂, _∙_}
 use mathlib.Core.List.{List, [], _∷_, _++_, append-nil, append-assoc}
 use mathlib.Core.Bool.{Bool, true, false}
-use Prim.Native.Nat.{ℕ, zero, suc, _+_, _≤_, _<_}
+use Prim.Native.Nat.{ℕ, zero, suc, _+_, _-_, _≤_, _<_}
 use native.Mathlib.Omega.{arith}
 use native.Mathlib.Nat.{add-zero, zero-add}
 use borrow.Author.Tests.{le-leb, lt-leb, leb-true, leb-false}
@@ -17,6 +17,7 @@ use Rattle.walk.specs.Units.{Report}
 use Rattle.walk.specs.Walked.{walked}
 use Rattle.walk.specs.Reports.{onward, reportsBy, reports}
 use Rattle.walk.proofs.Chain.{Went}
+use Rattle.walk.proofs.Demand.{no-more-reports}
 use Rattle.lines.specs.Lines.{unitLine, endLine, tooLongLine}
 use Rattle.listed.specs.declared.step.State.{State}
 use Rattle.listed.specs.Listing.{
@@ -49,7 +50,7 @@ counts false n u us h = refl
 
 -- the state after a unit, and the reports after it
 moved : (st : State) (m : ℕ) (u : Report UnitRead) (us : List (Report UnitRead)) → st .units < most → st .refused < most
-    → totals (counted st m (u .read .answer)) us ≡ totals st (u ∷ us)
+    → totals (counted st m (isRefused (u .read .answer))) us ≡ totals st (u ∷ us)
 moved st m u us h l =
     ap₂ endLine (counts true (st .units) u us h) (counts (isRefused (u .read .answer)) (st .refused) u (refusedOnes us) l)
 
@@ -69,7 +70,7 @@ module _ (t : Table) (s : List ℕ) (small : length s ≤ most) where
   -- a unit, and the steps after it
   unit-on : (f : ℕ) (st : State) (scratch : List ℕ) (p n m : ℕ) → walked t s (st .from) scratch .walked .step ≡ Step.Unit p n m
       → st .units < most → st .refused < most
-      → Writes f (counted st m (walked t s (st .from) scratch .walked .read .answer)) (walked t s (st .from) scratch .left)
+      → Writes f (counted st m (isRefused (walked t s (st .from) scratch .walked .read .answer))) (walked t s (st .from) scratch .left)
       → Writes (suc f) st scratch
   unit-on f st scratch p n m e h l ih =
       let w = walked t s (st .from) scratch in
@@ -78,7 +79,7 @@ module _ (t : Table) (s : List ℕ) (small : length s ≤ most) where
       let us : List (Report UnitRead) = reportsBy f t s m (w .left) in
       let line : List ℕ = unitLine (t .pictures) p (bytesAt s p n) x in
       let r : reportsBy (suc f) t s (st .from) scratch ≡ u ∷ us = ap (λ (k : Step). onward k x (λ next. reportsBy f t s next (w .left))) e in
-      ap (λ (o : Turn). andOn o (steps (suc f) t s)) (turn-by t s st scratch small (Step.Unit p n m) refl refl e)
+      ap (λ (o : Turn). andOn o (steps (suc f) t s)) (turn-by t s st scratch small (Step.Unit p n m) refl e)
       ∙ ap (λ (y : List ℕ). line ++ y) (ih ∙ ap (λ (y : List ℕ). unitLines (t .pictures) s us ++ y) (moved st m u us h l))
       ∙ sym (append-assoc line (unitLines (t .pictures) s us) (totals st (u ∷ us)))
       ∙ sym (ap (λ (vs : List (Report UnitRead)). unitLines (t .pictures) s vs ++ totals st vs) r)
@@ -94,8 +95,8 @@ module _ (t : Table) (s : List ℕ) (small : length s ≤ most) where
     where
       go : (k : Step) → walked t s (st .from) scratch .walked .step ≡ k → Writes zero st scratch
       go (Step.Unit p n m) e = let w = ahead t s (st .from) scratch small p n m e in absurd (omega (arith, w .on, w .within))
-      go Step.End e = ended zero st scratch _ (turn-by t s st scratch small Step.End refl refl e) refl
-      go (Step.Refused r) e = ended zero st scratch _ (turn-by t s st scratch small (Step.Refused r) refl refl e) refl
+      go Step.End e = ended zero st scratch _ (turn-by t s st scratch small Step.End refl e) refl
+      go (Step.Refused r) e = ended zero st scratch _ (turn-by t s st scratch small (Step.Refused r) refl e) refl
   along (suc f) st scratch h a b = go (along f) (walked t s (st .from) scratch .walked .step) refl
     where
       none : (k : Step) → walked t s (st .from) scratch .walked .step ≡ k
@@ -109,21 +110,33 @@ module _ (t : Table) (s : List ℕ) (small : length s ≤ most) where
           let c : st .from < most = omega (arith, w .on, w .within) in
           let x : UnitRead = walked t s (st .from) scratch .walked .read in
           unit-on f st scratch p n m e (omega arith) (omega arith)
-          (ih (counted st m (x .answer)) (walked t s (st .from) scratch .left)
+          (ih (counted st m (isRefused (x .answer))) (walked t s (st .from) scratch .left)
           (omega (arith, w .on))
           (omega (arith, w .on, one-up true (st .units) (st .from) a (omega arith)))
           (omega (arith, w .on, one-up (isRefused (x .answer)) (st .refused) (st .from) b (omega arith))))
-      go ih Step.End e = ended (suc f) st scratch _ (turn-by t s st scratch small Step.End refl refl e) (none Step.End e)
-      go ih (Step.Refused r) e = ended (suc f) st scratch _ (turn-by t s st scratch small (Step.Refused r) refl refl e) (none (Step.Refused r) e)
+      go ih Step.End e = ended (suc f) st scratch _ (turn-by t s st scratch small Step.End refl e) (none Step.End e)
+      go ih (Step.Refused r) e = ended (suc f) st scratch _ (turn-by t s st scratch small (Step.Refused r) refl e) (none (Step.Refused r) e)
 
--- for every table, recording and scratch: as many steps as the recording has bytes, and one, write the listing and no more
-pub steps-write-the-listing : (t : Table) (scratch s : List ℕ) → steps (suc (length s)) t s start scratch ≡ listing t scratch s
-unfolding listing
-steps-write-the-listing t scratch s =
-    cases (leb (length s) most)
-    (λ p. let h : length s ≤ most = leb-true (length s) most p in
-    let us : List (Report UnitRead) = reports t scratch s in
-    along t s h (length s) start scratch (omega arith) (omega arith) (omega arith)
-    ∙ ap (λ (y : List ℕ). unitLines (t .pictures) s us ++ y) (ap₂ endLine (zero-add (length us)) (zero-add (length (refusedOnes us))))
-    ∙ rw p)
-    (λ p. ap (λ (o : Turn). andOn o (steps (length s) t s)) (turn-long t s start scratch (leb-false (length s) most p)) ∙ append-nil tooLongLine ∙ rw p)
+module _ (t : Table) (scratch s : List ℕ) where
+  -- as many steps as the recording has bytes, and one, or more of them
+  enough : (f : ℕ) → length s ≤ f → steps (suc f) t s start scratch ≡ listing t scratch s
+  unfolding listing
+  enough f l =
+      cases (leb (length s) most)
+      (λ p. let h : length s ≤ most = leb-true (length s) most p in
+      let k : f - length s + length s ≡ f = omega arith in
+      let us : List (Report UnitRead) = reports t scratch s in
+      let e : reportsBy f t s 0 scratch ≡ us = rw k at (no-more-reports (f - length s) t scratch s (omega arith)) in
+      along t s h f start scratch (omega arith) (omega arith) (omega arith)
+      ∙ ap (λ (vs : List (Report UnitRead)). unitLines (t .pictures) s vs ++ totals start vs) e
+      ∙ ap (λ (y : List ℕ). unitLines (t .pictures) s us ++ y) (ap₂ endLine (zero-add (length us)) (zero-add (length (refusedOnes us))))
+      ∙ rw p)
+      (λ p. ap (λ (o : Turn). andOn o (steps f t s)) (turn-long t s start scratch (leb-false (length s) most p)) ∙ append-nil tooLongLine ∙ rw p)
+
+  -- for every table, recording and scratch: as many steps as the recording has bytes, and one, write the listing
+  pub steps-write-the-listing : steps (suc (length s)) t s start scratch ≡ listing t scratch s
+  steps-write-the-listing = enough (length s) (omega arith)
+
+  -- asked more often, the steps write no more
+  pub no-more-lines : (more : ℕ) → steps (suc (more + length s)) t s start scratch ≡ listing t scratch s
+  no-more-lines more = enough (more + length s) (omega arith)

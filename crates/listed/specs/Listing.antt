@@ -58,9 +58,9 @@ start = record { from = 0; units = 0; refused = 0 }
 abbrev pub oneMore : ℕ → ℕ
 oneMore n = pick (ltb n most) (suc n) n
 
--- after a unit
-abbrev pub counted : State → ℕ → UnitAnswer → State
-counted st next a = record { from = next; units = oneMore (st .units); refused = pick (isRefused a) (oneMore (st .refused)) (st .refused) }
+-- after a unit, and whether it was refused
+abbrev pub counted : State → ℕ → Bool → State
+counted st next refused = record { from = next; units = oneMore (st .units); refused = pick refused (oneMore (st .refused)) (st .refused) }
 
 -- a line's text, the state after it, whether another follows, and scratch at exit
 pub record Turn : Type 0 where
@@ -76,7 +76,7 @@ last text st scratch = record { text = text; state = st; more = false; left = sc
 -- a unit's line and its count; the totals where the walk came to no unit
 abbrev pub lineAfter : List ℕ → List ℕ → State → UnitRead → List ℕ → Step → Turn
 lineAfter pictures s st read scratch (Step.Unit place n next) =
-    record { text = unitLine pictures place (bytesAt s place n) read; state = counted st next (read .answer); more = true; left = scratch }
+    record { text = unitLine pictures place (bytesAt s place n) read; state = counted st next (isRefused (read .answer)); more = true; left = scratch }
 lineAfter pictures s st read scratch Step.End = last (endLine (st .units) (st .refused)) st scratch
 lineAfter pictures s st read scratch (Step.Refused r) = last (endLine (st .units) (st .refused)) st scratch
 
@@ -92,10 +92,6 @@ pub record Stepped (o : Turn) (line : List ℕ) (r : Listed) (scratch line′ : 
   pub more : r .more ≡ o .more
   pub text : Written (o .text) line (r .length) line′
   pub left : scratch ≡ o .left
-
--- for contracts of private functions: a last line, where scratch plays no part
-abbrev pub Ends : List ℕ → State → List ℕ → Listed → List ℕ → Type 0
-Ends text st line r line′ = Stepped (last text st []) line r [] line′
 
 -- ---- steps one after another: the lines that at most f of them write, each from the state and with the scratch that the one before left
 

@@ -1,15 +1,16 @@
 // One step of a listing: the walk's next unit as a line; or the last line, with the totals.
+use lent::whole::ShortAnswer;
 use lines::line::end_line;
 use lines::line::too_long_line;
 use lines::line::unit_line;
-use unit::answer::UnitAnswer;
-use unit::answer::UnitRead;
 use walk::walk::Step;
-use walk::walk::walk_in;
+use walk::walk::walk_into;
 ghost use mathlib.Core.Path.{_≡_};
 ghost use Rattle.header.specs.Lead.{tableOf};
+ghost use Rattle.walk.specs.Walked.{walked};
 ghost use Rattle.lines.specs.Lines.{endLine, tooLongLine};
-ghost use Rattle.listed.specs.Listing.{oneMore, isRefused, start, counted, turn, Stepped, Ends};
+ghost use Rattle.listed.specs.Listing.{oneMore, start, counted, turn, Stepped};
+ghost use Rattle.listed.specs.Private.{isRefusedShort, Ends, Met};
 
 // The longest recording that is listed, in bytes.
 pub const MOST: usize = 65_536;
@@ -46,23 +47,23 @@ fn one_more(n: usize) -> usize
     if n < MOST { n + 1 } else { n }
 }
 
-fn is_refused(a: UnitAnswer) -> bool
-    ensures { λ r. ⌜ r ≡ isRefused a ⌝ }
+fn is_refused(a: ShortAnswer) -> bool
+    ensures { λ r. ⌜ r ≡ isRefusedShort a ⌝ }
 {
     match a {
-        UnitAnswer::Slice(_) => false,
-        UnitAnswer::Prefix => false,
-        UnitAnswer::Other(_) => false,
-        UnitAnswer::Refused(_) => true,
+        ShortAnswer::Slice(_) => false,
+        ShortAnswer::Prefix(_) => false,
+        ShortAnswer::Other(_) => false,
+        ShortAnswer::Refused(_) => true,
     }
 }
 
 // The state after a unit.
-fn counted(state: State, next: usize, a: UnitAnswer) -> State
-    ensures { λ r. ⌜ r ≡ counted state next a ⌝ }
+fn counted(state: State, next: usize, refused: bool) -> State
+    ensures { λ r. ⌜ r ≡ counted state next refused ⌝ }
 {
     let units = one_more(state.units);
-    if is_refused(a) {
+    if refused {
         return State {
             from: next,
             units,
@@ -100,6 +101,56 @@ fn finish(state: State, line: &mut [u8; 128]) -> Listed
     }
 }
 
+// The walk's next step, what reading the unit answered, and the words of a slice's fields.
+struct Next {
+    step: Step,
+    answer: ShortAnswer,
+    numbers: [u32; 57],
+    signed: [i32; 7],
+}
+
+fn walk_on<'a>(
+    sequences: &'a [u32; 224],
+    pictures: &'a [u32; 2048],
+    recording: &[u8],
+    from: usize,
+    scratch: &mut [u8],
+) -> Next
+    ensures { λ r. ⌜ Met (walked (tableOf (now (sequences .entry)) (now (pictures .entry))) (now (recording .entry)) from (now (scratch .entry))) r (now (scratch .exit)) ⌝ }
+{
+    let mut numbers = [0u32; 57];
+    let mut signed = [0i32; 7];
+    let mut l0 = [0u32; 198];
+    let mut l1 = [0u32; 198];
+    let mut marking = [0u32; 198];
+    let mut w0 = [0i32; 256];
+    let mut w1 = [0i32; 256];
+    let mut base = [0u32; 198];
+    let w = walk_into(
+        sequences,
+        pictures,
+        recording,
+        from,
+        scratch,
+        &mut numbers,
+        &mut signed,
+        &mut l0,
+        &mut l1,
+        &mut marking,
+        &mut w0,
+        &mut w1,
+        &mut base,
+    );
+    let step = w.step;
+    let answer = w.answer;
+    Next {
+        step,
+        answer,
+        numbers,
+        signed,
+    }
+}
+
 // The next line of a listing, by the sets in a table's two arrays, to the front of `line`. Scratch is the walk's.
 pub fn list_step<'a>(
     sequences: &'a [u32; 224],
@@ -115,16 +166,18 @@ pub fn list_step<'a>(
         return too_long(state, line);
     }
     let from = state.from;
-    let w = walk_in(sequences, pictures, recording, from, scratch);
+    let w = walk_on(sequences, pictures, recording, from, scratch);
     let step = w.step;
     match step {
         Step::Unit(place, n, next) => {
             let end = place + n;
-            let read = w.read;
-            let answer = read.answer;
-            let length = unit_line(line, pictures, place, &recording[place..end], read);
+            let answer = w.answer;
+            let numbers = w.numbers;
+            let signed = w.signed;
+            let unit = &recording[place..end];
+            let length = unit_line(line, pictures, place, n, unit, answer, &numbers, &signed);
             Listed {
-                state: counted(state, next, answer),
+                state: counted(state, next, is_refused(answer)),
                 length,
                 more: true,
             }

@@ -5,6 +5,7 @@ pub mod Nexts
 pub mod Chain
 pub mod Steps
 pub mod Once
+pub mod Within
 pub mod Resync
 pub mod Border
 pub mod State

@@ -17,7 +17,6 @@ use Rattle.unit.specs.declared.answer.UnitRead.{UnitRead}
 use Rattle.unit.specs.Unit.{unitRead}
 use Rattle.walk.specs.declared.search.Found.{Found}
 use Rattle.walk.specs.declared.walk.Step.{Step}
-use Rattle.walk.specs.declared.walk.Walked.{Walked}
 use Rattle.walk.proofs.walk.Step.{the-type}
 use Rattle.walk.specs.Walk.{nextUnit}
 use Rattle.walk.specs.Walked.{WalkOut, stepTo, nextStep, nothing, reading, afterSearch, walked}

@@ -7,12 +7,17 @@ use lib.ListN.{length, take, drop}
 use Rattle.bits.specs.Refusals.{pick, refusal, tooLarge, limit}
 use Rattle.table.specs.declared.table.Table.{Table}
 use Rattle.unit.specs.declared.answer.UnitAnswer.{UnitAnswer}
+use Rattle.unit.specs.declared.answer.UnitRead.{UnitRead}
 use Rattle.unit.specs.Answer.{only}
 use Rattle.unit.specs.Unit.{UnitOut, unitRead}
 use Rattle.walk.specs.declared.search.Found.{Found}
 use Rattle.walk.specs.declared.walk.Step.{Step}
-use Rattle.walk.specs.declared.walk.Walked.{Walked}
 use Rattle.walk.specs.Walk.{nextUnit}
+
+-- the step, and what reading the unit gives
+pub record Walked : Type 0 where
+  pub step : Step
+  pub read : UnitRead
 
 -- what is answered, and scratch at exit
 pub record WalkOut : Type 0 where

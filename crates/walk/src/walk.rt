@@ -5,14 +5,13 @@ use bits::refusals::LIMIT;
 use bits::refusals::Refusal;
 use bits::refusals::TOO_LARGE;
 use bits::refusals::refuse;
-use table::table::Table;
-use unit::answer::UnitAnswer;
-use unit::answer::UnitRead;
-use unit::answer::only;
-use unit::unit::read_unit_in;
+use lent::whole::ShortAnswer;
+use lent::whole::read_unit_into;
 ghost use mathlib.Core.Path.{_≡_};
 ghost use Rattle.header.specs.Lead.{tableOf};
-ghost use Rattle.walk.specs.Walked.{nextStep, nothing, walked};
+ghost use Rattle.walk.specs.Walked.{nextStep, walked};
+ghost use Rattle.lent.specs.Lent.{lentWords};
+ghost use Rattle.walk.specs.WalkedInto.{WalkedInto};
 
 // What the walk came to: a unit's place, its length and the place to go on from; the end; or refusal 27.
 pub enum Step {
@@ -21,10 +20,10 @@ pub enum Step {
     Refused(Refusal),
 }
 
-// The step, and what reading the unit answers: where there is none, nothing (UnitAnswer::Other(0), and zero records).
-pub struct Walked {
+// The step, and what reading the unit answers: where there is none, nothing (ShortAnswer::Other(0)).
+pub struct WalkedShort {
     pub step: Step,
-    pub read: UnitRead,
+    pub answer: ShortAnswer,
 }
 
 // Where the next step comes to, with nothing read: 27 first; then the first unit whose start code begins at `from` or later, or the end.
@@ -44,38 +43,45 @@ pub fn next_step(recording: &[u8], from: usize) -> Step
     }
 }
 
-// A step to no unit.
-fn nothing(step: Step) -> Walked
-    ensures { λ r. ⌜ r ≡ nothing step ⌝ }
-{
-    Walked {
-        step,
-        read: only(UnitAnswer::Other(0)),
-    }
-}
-
-// One step, by the sets in a table's two arrays. Where it comes to no unit, scratch is untouched.
-pub fn walk_in<'a>(
+// One step, by the sets in a table's two arrays. Scratch and words are left as `read_unit_into` leaves them; where the step comes to no unit, all are untouched.
+pub fn walk_into<'a>(
     sequences: &'a [u32; 224],
     pictures: &'a [u32; 2048],
     recording: &[u8],
     from: usize,
     scratch: &mut [u8],
-) -> Walked
-    ensures { λ r. ⌜ (r ≡ walked (tableOf (now (sequences .entry)) (now (pictures .entry))) (now (recording .entry)) from (now (scratch .entry)) .walked) × (now (scratch .exit) ≡ walked (tableOf (now (sequences .entry)) (now (pictures .entry))) (now (recording .entry)) from (now (scratch .entry)) .left) ⌝ }
+    numbers: &mut [u32; 57],
+    signed: &mut [i32; 7],
+    l0: &mut [u32; 198],
+    l1: &mut [u32; 198],
+    marking: &mut [u32; 198],
+    w0: &mut [i32; 256],
+    w1: &mut [i32; 256],
+    base: &mut [u32; 198],
+) -> WalkedShort
+    ensures { λ r. ⌜ WalkedInto (walked (tableOf (now (sequences .entry)) (now (pictures .entry))) (now (recording .entry)) from (now (scratch .entry))) r (now (scratch .exit)) (lentWords numbers signed l0 l1 marking w0 w1 base .entry) (lentWords numbers signed l0 l1 marking w0 w1 base .exit) ⌝ }
 {
     let step = next_step(recording, from);
     let Step::Unit(place, length, _) = step else {
-        return nothing(step);
+        return WalkedShort {
+            step,
+            answer: ShortAnswer::Other(0),
+        };
     };
     let end = place + length;
-    let read = read_unit_in(sequences, pictures, &recording[place..end], scratch);
-    Walked { step, read }
-}
-
-// One step, by the sets of a table.
-pub fn walk(t: &Table, recording: &[u8], from: usize, scratch: &mut [u8]) -> Walked
-    ensures { λ r. ⌜ (r ≡ walked (now (t .entry)) (now (recording .entry)) from (now (scratch .entry)) .walked) × (now (scratch .exit) ≡ walked (now (t .entry)) (now (recording .entry)) from (now (scratch .entry)) .left) ⌝ }
-{
-    walk_in(&t.sequences, &t.pictures, recording, from, scratch)
+    let answer = read_unit_into(
+        sequences,
+        pictures,
+        &recording[place..end],
+        scratch,
+        numbers,
+        signed,
+        l0,
+        l1,
+        marking,
+        w0,
+        w1,
+        base,
+    );
+    WalkedShort { step, answer }
 }

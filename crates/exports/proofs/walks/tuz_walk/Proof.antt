@@ -1,73 +1,22 @@
-use mathlib.Core.Path.{refl, sym, _∙_}
-use native.Mathlib.Omega.{arith}
-use Rattle.walk.proofs.Chain.{Went, went}
-use Rattle.walk.proofs.Steps.{found-at, none-read, was-read}
-use Rattle.unit.specs.Answer.{only}
-use Rattle.walk.specs.Walked.{nothing}
-use Rattle.lent.specs.Lent.{wordsAfter}
-use Rattle.exports.specs.Units.{unitOut}
-use Rattle.exports.specs.Walks.{came, walkOut}
+use mathlib.Core.Path.{ap₂, _∙_}
+use Rattle.exports.specs.Walks.{walkTold}
 use borrow.Author.Needs.{needs}
 use Rattle.exports.proofs.walks.tuz_walk.Statement.{statement}
 use Rattle.exports.proofs.walks.tuz_walk.Tie as tie
 
--- what the search found
-found : (c : tie.After-step) → let a = c .before .before .before .before .before .args in let f = c .step .given .0 in Went (a .recording .now) (a .from) (f .0) (f .1 .0) (f .1 .1 .0)
-found c = went _ _ _ _ _ (found-at _ _ (sym (c .before .before .next-step .ensures) ∙ c .step .given .1))
+walk-into-requires : tie.Need-walk-into-requires
+walk-into-requires c κs = search needs
 
-next-step-requires : tie.Need-next-step-requires
-next-step-requires c κs = search needs
-
-enum-known-step : tie.Need-enum-known-step
-enum-known-step c = search needs
-
-no-unit-requires : tie.Need-no-unit-requires
-no-unit-requires c κs = search needs
-
-returns : tie.Need-returns
-unfolding nothing wordsAfter only
-returns c = rw (none-read _ _ _ _ (c .before .before .next-step .ensures) (c .before .match .keys2)) ((c .no-unit .ensures, refl), refl)
-
-add-end : tie.Need-add-end
-add-end c = let w = found (c .before) in omega arith
-
-sub-read-unit-into : tie.Need-sub-read-unit-into
-sub-read-unit-into c = search needs
-
-part-read-unit-into-start : tie.Need-part-read-unit-into-start
-part-read-unit-into-start c = search needs
-
-part-read-unit-into-end : tie.Need-part-read-unit-into-end
-part-read-unit-into-end c = let w = found (c .before) in omega arith
-
-read-unit-into-requires : tie.Need-read-unit-into-requires
-read-unit-into-requires c κs = search needs
-
-tell-requires : tie.Need-tell-requires
-tell-requires c κs = search needs
+walk-told-requires : tie.Need-walk-told-requires
+walk-told-requires c κs = search needs
 
 same-length : tie.Need-same-length
 same-length c = search needs
 
-returns-2 : tie.Need-returns-2
-unfolding came unitOut walkOut
-returns-2 c =
-    let g = c .before .before .before .read-unit-into .ensures in
-    rw (was-read _ _ _ _ (sym (c .before .before .before .before .before .before .before .before .before .before .before .before .before .before .before .before .before .next-step .ensures) ∙ c .before .before .before .before .before .before .before .before .before .before .before .before .before .before .before .step .given .1)) ((rw (c .tell .ensures, g .answered), g .left), g .words)
+returns : tie.Need-returns
+returns c =
+    let g = c .before .before .before .walk-into .ensures in
+    ((c .walk-told .ensures ∙ ap₂ walkTold (g .step) (g .answered), g .left), g .words)
 
 pub tuz-walk-spec : {M : Type 1} → statement M
-tuz-walk-spec =
-    tie.close
-    (tie.spec
-    next-step-requires
-    enum-known-step
-    no-unit-requires
-    returns
-    add-end
-    sub-read-unit-into
-    part-read-unit-into-start
-    part-read-unit-into-end
-    read-unit-into-requires
-    tell-requires
-    same-length
-    returns-2)
+tuz-walk-spec = tie.close (tie.spec walk-into-requires walk-told-requires same-length returns)

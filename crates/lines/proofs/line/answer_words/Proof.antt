@@ -1,5 +1,7 @@
 use borrow.Author.Needs.{needs}
 use native.Mathlib.Omega.{arith}
+use lib.IntN.{pos}
+use lib.ListN.{getD}
 use mir.Facts.{toZ-ofZ}
 use mir.Syntax.{w32, w64}
 use mir.Val.{SFits}
@@ -10,8 +12,20 @@ use Rattle.lines.proofs.line.answer_words.Tie as tie
 enum-told : tie.Need-enum-told
 enum-told c = search needs
 
-qp-requires : tie.Need-qp-requires
-qp-requires c κs = search needs
+element-copy-out-final-qp : tie.Need-element-copy-out-final-qp
+element-copy-out-final-qp c = search needs
+
+element-copy-out-final-qp-2 : tie.Need-element-copy-out-final-qp-2
+element-copy-out-final-qp-2 c = search needs
+
+final-qp-requires : tie.Need-final-qp-requires
+final-qp-requires c κs = search needs
+
+element-copy-out-slice-words : tie.Need-element-copy-out-slice-words
+element-copy-out-slice-words c = search needs
+
+element-copy-out-slice-words-2 : tie.Need-element-copy-out-slice-words-2
+element-copy-out-slice-words-2 c = search needs
 
 slice-words-requires : tie.Need-slice-words-requires
 slice-words-requires c κs = search needs
@@ -45,9 +59,9 @@ refused-words-requires c κs = search needs
 
 returns : tie.Need-returns
 returns c =
-    let v : SFits w64 (c .before .before .qp .result) = record { sfits = c .before .before .qp .ok } in
-    let d : SFits w32 (c .before .before .before .before .before .before .before .before .before .before .args .read .header .quantiser .«slice_qp_delta») = search needs in
-    rw (c .before .before .before .before .before .before .before .enum-told .given .1) (rw (toZ-ofZ v, c .before .before .qp .ensures, toZ-ofZ d) at (c .slice-words .ensures))
+    let v : SFits w64 (c .before .before .before .before .final-qp .result) = record { sfits = c .before .before .before .before .final-qp .ok } in
+    let d : SFits w32 (getD (c .before .before .before .before .before .before .before .before .before .before .args .signed .now) 3 (pos 0)) = search needs in
+    rw (c .before .before .before .before .before .before .before .enum-told .given .1) (rw (toZ-ofZ v, c .before .before .before .before .final-qp .ensures, toZ-ofZ d) at (c .slice-words .ensures))
 
 returns-2 : tie.Need-returns-2
 returns-2 c = rw (c .before .before .before .enum-told2 .given .1) (rw (c .before .is-svc .ensures) at (c .prefix-words .ensures))
@@ -63,7 +77,11 @@ answer-words-spec =
     tie.close
     (tie.spec
     enum-told
-    qp-requires
+    element-copy-out-final-qp
+    element-copy-out-final-qp-2
+    final-qp-requires
+    element-copy-out-slice-words
+    element-copy-out-slice-words-2
     slice-words-requires
     enum-told-2
     is-svc-requires

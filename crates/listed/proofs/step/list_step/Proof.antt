@@ -1,3 +1,4 @@
+use mathlib.Core.Path.{sym, _∙_}
 use borrow.Author.Needs.{needs}
 use native.Mathlib.Omega.{arith}
 use Rattle.header.specs.Lead.{tableOf}
@@ -12,26 +13,29 @@ too-long-requires c κs = search needs
 returns : tie.Need-returns
 returns c = rw (turn-long (tableOf (c .before .before .before .before .before .args .sequences .now) (c .before .before .before .before .before .args .pictures .now)) (c .before .before .before .before .before .args .recording .now) (c .before .before .before .before .before .args .state) (c .before .before .before .before .before .args .scratch .now) (omega arith)) (ends (c .too-long .ensures) (c .before .before .before .before .before .args .scratch .now))
 
-walk-in-requires : tie.Need-walk-in-requires
-walk-in-requires c κs = search needs
+walk-on-requires : tie.Need-walk-on-requires
+walk-on-requires c κs = search needs
 
 enum-known-step : tie.Need-enum-known-step
 enum-known-step c = search needs
 
 add-end : tie.Need-add-end
-add-end c = record { fits = omega (arith, inside (tableOf (c .before .before .before .before .before .before .before .before .before .before .args .sequences .now) (c .before .before .before .before .before .before .before .before .before .before .args .pictures .now)) (c .before .before .before .before .before .before .before .before .before .before .args .recording .now) (c .before .before .before .before .before .before .before .before .before .before .args .state .from) (c .before .before .before .before .before .before .before .before .before .before .args .scratch .now) (omega arith) (c .before .before .before .before .before .walk-in .ensures .0) (c .before .step .given .1)) }
+add-end c = record { fits = omega (arith, inside (tableOf (c .before .before .before .before .before .before .before .before .before .before .args .sequences .now) (c .before .before .before .before .before .before .before .before .before .before .args .pictures .now)) (c .before .before .before .before .before .before .before .before .before .before .args .recording .now) (c .before .before .before .before .before .before .before .before .before .before .args .state .from) (c .before .before .before .before .before .before .before .before .before .before .args .scratch .now) (omega arith) (c .before .before .before .before .before .walk-on .ensures) (c .before .step .given .1)) }
 
-sub-unit-line : tie.Need-sub-unit-line
-sub-unit-line c = search needs
+sub-unit : tie.Need-sub-unit
+sub-unit c = search needs
 
-part-unit-line-start : tie.Need-part-unit-line-start
-part-unit-line-start c = search needs
+part-unit-start : tie.Need-part-unit-start
+part-unit-start c = search needs
 
-part-unit-line-end : tie.Need-part-unit-line-end
-part-unit-line-end c = inside (tableOf (c .before .before .before .before .before .before .before .before .before .before .before .before .args .sequences .now) (c .before .before .before .before .before .before .before .before .before .before .before .before .args .pictures .now)) (c .before .before .before .before .before .before .before .before .before .before .before .before .args .recording .now) (c .before .before .before .before .before .before .before .before .before .before .before .before .args .state .from) (c .before .before .before .before .before .before .before .before .before .before .before .before .args .scratch .now) (omega arith) (c .before .before .before .before .before .before .before .walk-in .ensures .0) (c .before .before .before .step .given .1)
+part-unit-end : tie.Need-part-unit-end
+part-unit-end c = inside (tableOf (c .before .before .before .before .before .before .before .before .before .before .before .before .args .sequences .now) (c .before .before .before .before .before .before .before .before .before .before .before .before .args .pictures .now)) (c .before .before .before .before .before .before .before .before .before .before .before .before .args .recording .now) (c .before .before .before .before .before .before .before .before .before .before .before .before .args .state .from) (c .before .before .before .before .before .before .before .before .before .before .before .before .args .scratch .now) (omega arith) (c .before .before .before .before .before .before .before .walk-on .ensures) (c .before .before .before .step .given .1)
 
 unit-line-requires : tie.Need-unit-line-requires
 unit-line-requires c κs = search needs
+
+is-refused-requires : tie.Need-is-refused-requires
+is-refused-requires c κs = search needs
 
 counted-requires : tie.Need-counted-requires
 counted-requires c κs = search needs
@@ -52,19 +56,19 @@ same-length : tie.Need-same-length
 same-length c = search needs
 
 returns-2 : tie.Need-returns-2
-returns-2 c = unit-stepped (tableOf (c .before .before .before .before .before .before .before .before .before .before .before .before .before .before .before .args .sequences .now) (c .before .before .before .before .before .before .before .before .before .before .before .before .before .before .before .args .pictures .now)) (c .before .before .before .before .before .before .before .before .before .before .before .before .before .before .before .args .recording .now) (c .before .before .before .before .before .before .before .before .before .before .before .before .before .before .before .args .state) (c .before .before .before .before .before .before .before .before .before .before .before .before .before .before .before .args .scratch .now) (omega arith) (c .before .before .before .before .before .before .before .before .before .before .walk-in .ensures .0) (c .before .before .before .before .before .before .before .before .before .before .walk-in .ensures .1) (c .before .before .before .before .before .before .step .given .1) (c .before .unit-line .ensures) (c .counted .ensures)
+returns-2 c = unit-stepped (tableOf (c .before .before .before .before .before .before .before .before .before .before .before .before .before .before .before .before .before .before .before .args .sequences .now) (c .before .before .before .before .before .before .before .before .before .before .before .before .before .before .before .before .before .before .before .args .pictures .now)) (c .before .before .before .before .before .before .before .before .before .before .before .before .before .before .before .before .before .before .before .args .recording .now) (c .before .before .before .before .before .before .before .before .before .before .before .before .before .before .before .before .before .before .before .args .state) (c .before .before .before .before .before .before .before .before .before .before .before .before .before .before .before .before .before .before .before .args .scratch .now) (omega arith) (c .before .before .before .before .before .before .before .before .before .before .before .before .before .before .walk-on .ensures) (c .before .before .before .before .before .before .before .before .before .before .step .given .1) (c .before .before .unit-line .ensures) (rw (c .before .is-refused .ensures) at (c .counted .ensures))
 
 same-length-2 : tie.Need-same-length-2
 same-length-2 c = search needs
 
 returns-3 : tie.Need-returns-3
-returns-3 c = rw (turn-by (tableOf (c .before .before .before .before .before .before .before .before .before .before .before .args .sequences .now) (c .before .before .before .before .before .before .before .before .before .before .before .args .pictures .now)) (c .before .before .before .before .before .before .before .before .before .before .before .args .recording .now) (c .before .before .before .before .before .before .before .before .before .before .before .args .state) (c .before .before .before .before .before .before .before .before .before .before .before .args .scratch .now) (omega arith) Step.End (c .before .before .before .before .before .before .walk-in .ensures .0) (c .before .before .before .before .before .before .walk-in .ensures .1) (c .before .before .enum-told .given .1)) (ends (c .finish .ensures) _)
+returns-3 c = rw (turn-by (tableOf (c .before .before .before .before .before .before .before .before .before .before .before .args .sequences .now) (c .before .before .before .before .before .before .before .before .before .before .before .args .pictures .now)) (c .before .before .before .before .before .before .before .before .before .before .before .args .recording .now) (c .before .before .before .before .before .before .before .before .before .before .before .args .state) (c .before .before .before .before .before .before .before .before .before .before .before .args .scratch .now) (omega arith) Step.End (c .before .before .before .before .before .before .walk-on .ensures .left) (sym (c .before .before .before .before .before .before .walk-on .ensures .step) ∙ c .before .before .enum-told .given .1)) (ends (c .finish .ensures) _)
 
 same-length-3 : tie.Need-same-length-3
 same-length-3 c = search needs
 
 returns-4 : tie.Need-returns-4
-returns-4 c = rw (turn-by (tableOf (c .before .before .before .before .before .before .before .before .before .before .before .args .sequences .now) (c .before .before .before .before .before .before .before .before .before .before .before .args .pictures .now)) (c .before .before .before .before .before .before .before .before .before .before .before .args .recording .now) (c .before .before .before .before .before .before .before .before .before .before .before .args .state) (c .before .before .before .before .before .before .before .before .before .before .before .args .scratch .now) (omega arith) (Step.Refused _) (c .before .before .before .before .before .before .walk-in .ensures .0) (c .before .before .before .before .before .before .walk-in .ensures .1) (c .before .before .enum-told2 .given .1)) (ends (c .finish2 .ensures) _)
+returns-4 c = rw (turn-by (tableOf (c .before .before .before .before .before .before .before .before .before .before .before .args .sequences .now) (c .before .before .before .before .before .before .before .before .before .before .before .args .pictures .now)) (c .before .before .before .before .before .before .before .before .before .before .before .args .recording .now) (c .before .before .before .before .before .before .before .before .before .before .before .args .state) (c .before .before .before .before .before .before .before .before .before .before .before .args .scratch .now) (omega arith) (Step.Refused _) (c .before .before .before .before .before .before .walk-on .ensures .left) (sym (c .before .before .before .before .before .before .walk-on .ensures .step) ∙ c .before .before .enum-told2 .given .1)) (ends (c .finish2 .ensures) _)
 
 pub list-step-spec : {M : Type 1} → statement M
 list-step-spec =
@@ -72,13 +76,14 @@ list-step-spec =
     (tie.spec
     too-long-requires
     returns
-    walk-in-requires
+    walk-on-requires
     enum-known-step
     add-end
-    sub-unit-line
-    part-unit-line-start
-    part-unit-line-end
+    sub-unit
+    part-unit-start
+    part-unit-end
     unit-line-requires
+    is-refused-requires
     counted-requires
     enum-told
     finish-requires

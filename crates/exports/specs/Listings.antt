@@ -1,0 +1,15 @@
+-- What a unit's ReadOut says to a line.
+use Prim.Native.Nat.{ℕ}
+use lib.Dec.{eqb}
+use lib.IntN.{ℤ}
+use Rattle.bits.specs.Refusals.{pick}
+use Rattle.lists.specs.Absent.{noPrefix}
+use Rattle.words.specs.ListsLent.{prefixShort}
+use Rattle.lent.specs.declared.whole.ShortAnswer.{ShortAnswer}
+
+-- by its answer, number and value: 0, another type; 1, a slice; 2, a prefix unit; else refused. A line speaks neither of a header's length nor of a prefix's fields
+unfoldable pub heard : ℕ → ℕ → ℤ → ShortAnswer
+heard answer number value =
+    pick (eqb answer 0) (ShortAnswer.Other number)
+    (pick (eqb answer 1) (ShortAnswer.Slice 0)
+    (pick (eqb answer 2) (ShortAnswer.«Prefix» (prefixShort noPrefix)) (ShortAnswer.Refused (record { number = number; value = value }))))

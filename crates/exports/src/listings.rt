@@ -1,0 +1,54 @@
+// The lines of a listing, for a host that walks by itself: each is written to the front of a lent buffer of 128 bytes, and the answer is its length.
+use crate::units::no_prefix;
+use bits::refusals::Refusal;
+use lent::whole::ShortAnswer;
+use lines::line::end_line;
+use lines::line::unit_line;
+ghost use mathlib.Core.Path.{_≡_};
+ghost use Rattle.lines.specs.Lines.{lentLine, endLine, Written};
+ghost use Rattle.exports.specs.Listings.{heard};
+
+// What a ReadOut's numbers tell, as far as a line speaks of it.
+fn hear(answer: u32, number: u8, value: i64) -> ShortAnswer
+    ensures { λ r. ⌜ r ≡ heard answer number value ⌝ }
+{
+    if answer == 0 {
+        return ShortAnswer::Other(number);
+    }
+    if answer == 1 {
+        return ShortAnswer::Slice(0);
+    }
+    if answer == 2 {
+        return ShortAnswer::Prefix(no_prefix());
+    }
+    ShortAnswer::Refused(Refusal { number, value })
+}
+
+// A unit's line: its place and length in the recording, its bytes, which only a prefix unit's line looks at, `answer`, `number` and `value` of its ReadOut, and
+// the words of a slice's fields.
+#[no_mangle]
+pub extern "C" fn tuz_unit_line(
+    line: &mut [u8; 128],
+    pictures: &[u32; 2048],
+    place: usize,
+    length: usize,
+    unit: &[u8],
+    answer: u32,
+    number: u8,
+    value: i64,
+    numbers: &[u32; 57],
+    signed: &[i32; 7],
+) -> usize
+    ensures { λ r. ⌜ Written (lentLine (now (pictures .entry)) place length (now (unit .entry)) (heard answer number value) (now (numbers .entry)) (now (signed .entry))) (now (line .entry)) r (now (line .exit)) ⌝ }
+{
+    let a = hear(answer, number, value);
+    unit_line(line, pictures, place, length, unit, a, numbers, signed)
+}
+
+// The last line: how many units there were, and how many of them were refused.
+#[no_mangle]
+pub extern "C" fn tuz_end_line(line: &mut [u8; 128], units: usize, refused: usize) -> usize
+    ensures { λ r. ⌜ Written (endLine units refused) (now (line .entry)) r (now (line .exit)) ⌝ }
+{
+    end_line(line, units, refused)
+}

@@ -1,0 +1,23 @@
+use borrow.Author.Needs.{needs}
+use mir.Facts.{toZ-ofZ}
+use mir.Syntax.{w32, w64}
+use mir.Val.{SFits}
+use Rattle.lines.specs.Level.{finalQp}
+use Rattle.lines.proofs.level.final_qp.Statement.{statement}
+use Rattle.lines.proofs.level.final_qp.Tie as tie
+
+init-qp-requires : tie.Need-init-qp-requires
+init-qp-requires c κs = search needs
+
+level-requires : tie.Need-level-requires
+level-requires c κs = search needs
+
+returns : tie.Need-returns
+unfolding finalQp
+returns c =
+    let i : SFits w32 (c .before .init-qp .result) = record { sfits = c .before .init-qp .ok } in
+    let l : SFits w64 (c .level .result) = record { sfits = c .level .ok } in
+    rw (toZ-ofZ l, c .level .ensures, toZ-ofZ i, toZ-ofZ (c .before .before .fits .delta), c .before .init-qp .ensures)
+
+pub final-qp-spec : {M : Type 1} → statement M
+final-qp-spec = tie.close (tie.spec init-qp-requires level-requires returns)

@@ -1,0 +1,28 @@
+use borrow.Author.Needs.{needs}
+use mir.Facts.{toZ-ofZ}
+use mir.Syntax.{w32}
+use mir.Val.{SFits}
+use mathlib.Core.Path.{sym, _∙_}
+use Rattle.lines.proofs.Levels.{init-qs}
+use Rattle.lines.proofs.level.init_qs.Statement.{statement}
+use Rattle.lines.proofs.level.init_qs.Tie as tie
+
+picture-in-requires : tie.Need-picture-in-requires
+picture-in-requires c κs = search needs
+
+enum-known-p : tie.Need-enum-known-p
+enum-known-p c = search needs
+
+enum-told : tie.Need-enum-told
+enum-told c = search needs
+
+returns : tie.Need-returns
+returns c =
+    let f : SFits w32 (c .before .before .p .given .0 .0 .«pic_init_qs_minus26») = search needs in
+    rw (toZ-ofZ f) (init-qs _ _ _ (sym (c .before .before .p .given .1) ∙ c .before .before .before .before .picture-in .ensures))
+
+returns-2 : tie.Need-returns-2
+returns-2 c = init-qs _ _ _ (sym (c .enum-told .given .1) ∙ c .before .before .picture-in .ensures)
+
+pub init-qs-spec : {M : Type 1} → statement M
+init-qs-spec = tie.close (tie.spec picture-in-requires enum-known-p enum-told returns returns-2)

@@ -1,0 +1,14 @@
+-- One step of the walk into lent words.
+use mathlib.Core.Path.{_≡_}
+use mathlib.Core.List.{List}
+use Prim.Native.Nat.{ℕ}
+use Rattle.lent.specs.Lent.{shortAnswer, Lent, wordsAfter}
+use Rattle.walk.specs.declared.walk.WalkedShort.{WalkedShort}
+use Rattle.walk.specs.Walked.{WalkOut}
+
+-- what is answered, scratch at exit, and the words at exit, w, which were b at entry, for a step that comes to o
+pub record WalkedInto (o : WalkOut) (r : WalkedShort) (scratch : List ℕ) (b w : Lent) : Type 0 where
+  pub step : r .step ≡ o .walked .step
+  pub answered : r .answer ≡ shortAnswer (o .walked .read)
+  pub left : scratch ≡ o .left
+  pub words : w ≡ wordsAfter (o .walked .read) b
