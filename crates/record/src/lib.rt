@@ -2,3 +2,4 @@
 pub mod fields; // the parts without lists
 pub mod entries; // lists
 pub mod record; // the header and the prefix, whole
+pub mod plain; // whether words say it in one way
