@@ -1,11 +1,10 @@
 // Writing a slice header.
-use syntax::record::SliceHeader;
 use writer::given::ExtensionGiven;
 use writer::write::HeaderWrote;
-use writer::write::write_header_in;
+use writer::write::write_words_in;
 ghost use mathlib.Core.Path.{_≡_};
 ghost use Rattle.header.specs.Lead.{tableOf};
-ghost use Rattle.writer.specs.Write.{writeHeader};
+ghost use Rattle.writer.specs.Write.{headerWords, writeWords};
 ghost use Rattle.exports.specs.Writes.{wroteOut};
 
 // What writing a header answers: its length in bits, or document 01's refusal. What the answer does not speak of is zero.
@@ -33,17 +32,37 @@ fn wrote_out(a: HeaderWrote) -> WroteOut
     }
 }
 
-// A header written by the sets in a table's two arrays, for the unit that the first byte and the extension tell of. A refusal leaves the buffer as it was.
+// The header that words hold, as `tuz_read_unit` lays them down, written by the sets in a table's two arrays, for the unit that the first byte and the extension
+// tell of. A refusal leaves the buffer as it was. Words behind a list's count are not looked at.
 #[no_mangle]
 pub extern "C" fn tuz_write_header<'a>(
     sequences: &'a [u32; 224],
     pictures: &'a [u32; 2048],
     first: u8,
     extension: ExtensionGiven,
-    header: SliceHeader,
+    numbers: &[u32; 57],
+    signed: &[i32; 7],
+    l0: &[u32; 198],
+    l1: &[u32; 198],
+    marking: &[u32; 198],
+    w0: &[i32; 256],
+    w1: &[i32; 256],
     out: &mut [u8],
 ) -> WroteOut
-    ensures { λ r. ⌜ (r ≡ wroteOut (writeHeader (tableOf (now (sequences .entry)) (now (pictures .entry))) first extension header (now (out .entry)) .answer)) × (now (out .exit) ≡ writeHeader (tableOf (now (sequences .entry)) (now (pictures .entry))) first extension header (now (out .entry)) .left) ⌝ }
+    ensures { λ r. ⌜ (r ≡ wroteOut (writeWords (tableOf (now (sequences .entry)) (now (pictures .entry))) first extension (headerWords (now (numbers .entry)) (now (signed .entry)) (now (l0 .entry)) (now (l1 .entry)) (now (marking .entry)) (now (w0 .entry)) (now (w1 .entry))) (now (out .entry)) .answer)) × (now (out .exit) ≡ writeWords (tableOf (now (sequences .entry)) (now (pictures .entry))) first extension (headerWords (now (numbers .entry)) (now (signed .entry)) (now (l0 .entry)) (now (l1 .entry)) (now (marking .entry)) (now (w0 .entry)) (now (w1 .entry))) (now (out .entry)) .left) ⌝ }
 {
-    wrote_out(write_header_in(sequences, pictures, first, extension, header, out))
+    wrote_out(write_words_in(
+        sequences,
+        pictures,
+        first,
+        extension,
+        numbers,
+        signed,
+        l0,
+        l1,
+        marking,
+        w0,
+        w1,
+        out,
+    ))
 }

@@ -1,5 +1,5 @@
 -- A header's fields out of its words: `n` are the numbers, flags and marks, `z` the signed numbers. Words and fields stand in one order (short/specs/Short, `numbersOf`).
-use Prim.Native.Nat.{ℕ, suc}
+use Prim.Native.Nat.{ℕ, _+_}
 use mathlib.Core.Bool.{Bool, not}
 use mathlib.Core.List.{List}
 use lib.Dec.{eqb}
@@ -27,10 +27,10 @@ setIn n k = not (eqb (numberIn n k) 0)
 -- what may be absent: its mark, then its value
 
 abbrev pub markedNumber : List ℕ → ℕ → MarkedNumber
-markedNumber n k = record { there = setIn n k; value = numberIn n (suc k) }
+markedNumber n k = record { there = setIn n k; value = numberIn n (k + 1) }
 
 abbrev pub markedFlag : List ℕ → ℕ → MarkedFlag
-markedFlag n k = record { there = setIn n k; value = setIn n (suc k) }
+markedFlag n k = record { there = setIn n k; value = setIn n (k + 1) }
 
 -- a signed one's value stands among the signed numbers, at j
 abbrev pub markedSigned : List ℕ → List ℤ → ℕ → ℕ → MarkedSigned

@@ -24,7 +24,7 @@ use Rattle.writer.specs.declared.given.KindGiven.{KindGiven}
 use Rattle.writer.specs.declared.sets.SetsFor.{SetsFor}
 use Rattle.writer.specs.declared.write.HeaderWrote.{HeaderWrote}
 use Rattle.writer.specs.Given.{kindGiven}
-use Rattle.writer.specs.Write.{setsFor, HeaderOut, untouched, bitsOut, afterSets, afterKind, writeHeader}
+use Rattle.writer.specs.Write.{setsFor, HeaderOut, untouched, bitsOut, afterSets, afterKind, writeWhere, writeHeader}
 use Rattle.writer.proofs.Passed.{Found}
 
 -- an answer that is a refusal is none of bits
@@ -46,20 +46,20 @@ module _ (t : Table) (k : UnitKind) (h : SliceHeader) (out : List ℕ) where
   abbrev l : Bits
   l = header t k .bits h
 
-  pub out-none : header t k .good h ≡ false → bitsOut t k h out ≡ untouched (refusal noBits (pos 0) 0) out
+  pub out-none : header t k .good h ≡ false → bitsOut true t k h out ≡ untouched (refusal noBits (pos 0) 0) out
   unfolding bitsOut written
   out-none g = rw g
 
-  pub out-short : T (header t k .good h) → length (bitsOf out) < length l → bitsOut t k h out ≡ untouched (refusal bufferTooShort (pos (bytesFor (length l))) 0) out
+  pub out-short : T (header t k .good h) → length (bitsOf out) < length l → bitsOut true t k h out ≡ untouched (refusal bufferTooShort (pos (bytesFor (length l))) 0) out
   unfolding bitsOut written
   out-short g s = rw (T-true (header t k .good h) g, zero-add (length l), lt-leb (length l) (length (bitsOf out)) s)
 
-  pub out-bits : T (header t k .good h) → length l ≤ length (bitsOf out) → bitsOut t k h out ≡ record { answer = HeaderWrote.Bits (length l); left = putBits out 0 l }
+  pub out-bits : T (header t k .good h) → length l ≤ length (bitsOf out) → bitsOut true t k h out ≡ record { answer = HeaderWrote.Bits (length l); left = putBits out 0 l }
   unfolding bitsOut written
   out-bits g s = rw (T-true (header t k .good h) g, zero-add (length l), le-leb (length l) (length (bitsOf out)) s)
 
   -- a good record's answer is not 25
-  pub good-written : T (header t k .good h) → bitsOut t k h out .answer ≡ HeaderWrote.Refused (refusal noBits (pos 0) 0) → ⊥
+  pub good-written : T (header t k .good h) → bitsOut true t k h out .answer ≡ HeaderWrote.Refused (refusal noBits (pos 0) 0) → ⊥
   good-written g w =
       cases (leb (length l) (length (bitsOf out)))
       (λ r.
@@ -74,15 +74,15 @@ module _ (t : Table) (k : UnitKind) (h : SliceHeader) (out : List ℕ) where
 -- ---- for what is told of the unit
 
 module _ (t : Table) (b : ℕ) (x : ExtensionGiven) (h : SliceHeader) (out : List ℕ) where
-  pub goes-on : {k : UnitKind} → kindGiven b x ≡ KindGiven.Of k → Found t (h .«pic_parameter_set_id») → writeHeader t b x h out ≡ bitsOut t k h out
-  unfolding writeHeader
+  pub goes-on : {k : UnitKind} → kindGiven b x ≡ KindGiven.Of k → Found t (h .«pic_parameter_set_id») → writeHeader t b x h out ≡ bitsOut true t k h out
+  unfolding writeWhere
   goes-on q f = rw (q, f .are)
 
   module _ (n : ℕ) (left : List ℕ) where
     abbrev Out : HeaderOut
     Out = record { answer = HeaderWrote.Bits n; left = left }
 
-    of-bits : (k : UnitKind) → kindGiven b x ≡ KindGiven.Of k → bitsOut t k h out ≡ Out → Wrote t b x h out n left
+    of-bits : (k : UnitKind) → kindGiven b x ≡ KindGiven.Of k → bitsOut true t k h out ≡ Out → Wrote t b x h out n left
     of-bits k q w =
         let m = length (header t k .bits h) in
         cases (header t k .good h)
@@ -105,14 +105,14 @@ module _ (t : Table) (b : ℕ) (x : ExtensionGiven) (h : SliceHeader) (out : Lis
         no-bits (ap (λ (o : HeaderOut). o .answer) e)))
         (λ g. no-bits (ap (λ (o : HeaderOut). o .answer) (sym (out-none t k h out g) ∙ w)))
 
-    of-sets : (k : UnitKind) → kindGiven b x ≡ KindGiven.Of k → (f : SetsFor) → afterSets t k h out f ≡ Out → Wrote t b x h out n left
+    of-sets : (k : UnitKind) → kindGiven b x ≡ KindGiven.Of k → (f : SetsFor) → afterSets true t k h out f ≡ Out → Wrote t b x h out n left
     of-sets k q (SetsFor.There p s) w = of-bits k q w
     of-sets k q (SetsFor.Refused r) w = no-bits (ap (λ (o : HeaderOut). o .answer) w)
 
-    of-kind : (f : KindGiven) → kindGiven b x ≡ f → afterKind t h out f ≡ Out → Wrote t b x h out n left
+    of-kind : (f : KindGiven) → kindGiven b x ≡ f → afterKind true t h out f ≡ Out → Wrote t b x h out n left
     of-kind (KindGiven.Of k) q w = of-sets k q (setsFor t (h .«pic_parameter_set_id»)) w
     of-kind (KindGiven.Refused r) q w = no-bits (ap (λ (o : HeaderOut). o .answer) w)
 
   pub wrote : {n : ℕ} {left : List ℕ} → writeHeader t b x h out ≡ record { answer = HeaderWrote.Bits n; left = left } → Wrote t b x h out n left
-  unfolding writeHeader
+  unfolding writeWhere
   wrote {n} {left} w = of-kind n left (kindGiven b x) refl w

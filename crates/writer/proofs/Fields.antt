@@ -3,12 +3,8 @@ use Prim.Native.Nat.{ℕ}
 use mathlib.Core.Path.{_≡_, refl, sym, _∙_, subst⁻¹}
 use mathlib.Core.List.{List}
 use mathlib.Core.Bool.{Bool, true, false, not, _&&_}
-use native.Mathlib.Omega.{arith}
-use lib.Dec.{T, eqb}
-use lib.IntN.{ℤ, pos, negsuc}
-use mir.Syntax.{w32}
-use mir.Val.{SFits, ofZ}
-use borrow.Author.Tests.{ne-eqb}
+use lib.Dec.{T}
+use lib.IntN.{ℤ, pos}
 use Rattle.bits.specs.declared.read.Cursor.{Cursor}
 use Rattle.bits.specs.declared.put.Wrote.the-variants.{At}
 use Rattle.bits.specs.Refusals.{pick}
@@ -126,8 +122,3 @@ module _ {A : Type 0} (z : A) (isz : A → Bool) (F : Fmt A) (v : A) (b : Bool) 
   pub given-unfit : {d' : List ℕ} → b ≡ false → isz v ≡ false → PutTo (given b z isz F) v d at d' (record { at = nowhere })
   unfolding given
   given-unfit t q = shaped-unfit _ (λ v. record { there = b; value = v }) z isz F v b refl (rw (t, q))
-
--- a signed number is zero where its bits are
-pub zero-bits : (z : ℤ) → SFits w32 z → eqb (ofZ w32 z) 0 ≡ isZeroZ z
-zero-bits (pos n) f = refl
-zero-bits (negsuc n) f = ne-eqb (ofZ w32 (negsuc n)) 0 (λ h. omega (arith, h, f .sfits))

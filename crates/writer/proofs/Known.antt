@@ -1,8 +1,8 @@
 -- The header's format once its sets are known: it is the format by the table, and a buffer of 6,144 bytes has room for its bits.
 use Prim.Native.Nat.{ℕ, _+_, _*_, _≤_, _<_}
-use mathlib.Core.Path.{_≡_, refl, sym, ap, ap₂, subst, _∙_}
+use mathlib.Core.Path.{_≡_, refl, sym, ap, ap₂, subst, subst⁻¹, _∙_}
 use mathlib.Core.List.{List, _++_}
-use mathlib.Core.Bool.{Bool, true, false, _&&_}
+use mathlib.Core.Bool.{Bool, true, false, _&&_, and-assoc, and-false}
 use native.Mathlib.Omega.{arith}
 use native.Mathlib.Nat.{zero-add}
 use lib.Dec.{T, leb, eqb}
@@ -15,7 +15,7 @@ use Rattle.bits.specs.Put.{written, bytesFor}
 use Rattle.bits.proofs.Results.{cases}
 use Rattle.fmt.specs.Fmt.{seq, shaped, test}
 use Rattle.fmt.specs.Leaves.{ue}
-use Rattle.fmt.proofs.Lawful.{T-true}
+use Rattle.fmt.proofs.Lawful.{both-0, T-true}
 use Rattle.fmt.proofs.Sizes.{Short, ue-short}
 use Rattle.fmt.proofs.Puts.{Done, Stopped}
 use Rattle.table.specs.declared.sets.Picture.{Picture}
@@ -32,6 +32,8 @@ use Rattle.syntax.specs.SliceHeader.{pictureSetId, lead, ofHeader, header}
 use Rattle.syntax.proofs.Sizes.{then, sliceType-short}
 use Rattle.syntax.proofs.Sets.{Few, defaults-few}
 use Rattle.syntax.proofs.HeaderSize.{parts-short}
+use Rattle.short.specs.Short.{HeaderWords}
+use Rattle.record.specs.Record.{headerFrom, plainNumbers, plain}
 use Rattle.writer.specs.declared.sets.SetsFor.{SetsFor}
 use Rattle.writer.specs.Write.{withPicture, withSequence, setsFor, HeaderOut, untouched, outOf, bitsOut}
 use Rattle.writer.specs.Stages.{fields, isKnown, knownOut, copied}
@@ -84,7 +86,11 @@ module _ (t : Table) (id : ℕ) (p : Picture) (s : Sequence) where
 pub known-few : (t : Table) (id : ℕ) (p : Picture) (s : Sequence) → setsFor t id ≡ SetsFor.There p s → Few p
 known-few t id p s e = subst Few (picture-is t id (sets-are t id p s e .picture)) (defaults-few t id)
 
-module _ (t : Table) (n : UnitKind) (h : SliceHeader) (out : List ℕ) (p : Picture) (s : Sequence) (e : setsFor t (h .«pic_parameter_set_id») ≡ SetsFor.There p s) where
+module _ (t : Table) (n : UnitKind) (w : HeaderWords) (out : List ℕ) (p : Picture) (s : Sequence)
+    (e : setsFor t (headerFrom w .«pic_parameter_set_id») ≡ SetsFor.There p s) where
+  abbrev h : SliceHeader
+  h = headerFrom w
+
   abbrev id : ℕ
   id = h .«pic_parameter_set_id»
 
@@ -101,55 +107,70 @@ module _ (t : Table) (n : UnitKind) (h : SliceHeader) (out : List ℕ) (p : Pict
   unfolding header shaped seq lead pictureSetId test
   bits-known = rw (context-is t id p s (sets-are t id p s e) n)
 
-  pub known-out : knownOut x h out ≡ bitsOut t n h out
+  pub known-out : knownOut x w out ≡ bitsOut (plain w) t n h out
   unfolding knownOut bitsOut
-  known-out = ap₂ (λ (g : Bool) (l : Bits). outOf (written g l out 0)) (sym good-known) (sym bits-known)
+  known-out = ap₂ (λ (g : Bool) (l : Bits). outOf (written (plain w && g) l out 0)) (sym good-known) (sym bits-known)
 
 -- ---- in the stages' buffer
 
 fields-short : (x : Context) → Short (fields x) 43199
 fields-short x = then (then ue-short (λ m. then sliceType-short (λ k. ue-short))) (λ l. parts-short x _)
 
-module _ (x : Context) (h : SliceHeader) where
+module _ (x : Context) (w : HeaderWords) where
+  abbrev r : SliceHeader
+  r = headerFrom w
+
   abbrev l : Bits
-  l = fields x .bits (ofHeader h)
+  l = fields x .bits (ofHeader r)
 
-  abbrev same : Bool
-  same = eqb (h .«seq_parameter_set_id») (x .picture .«seq_parameter_set_id»)
+  -- words hold a record, and its seq_parameter_set_id is the picture set's
+  abbrev pub fitting : Bool
+  fitting = plain w && eqb (r .«seq_parameter_set_id») (x .picture .«seq_parameter_set_id»)
 
-  most : T (fields x .good (ofHeader h)) → length l ≤ 8 * 6144
-  most g = omega (arith, fields-short x .most (ofHeader h) g)
+  pub fitting-numbers : fitting ≡ true → plainNumbers (w .numbers) ≡ true
+  unfolding plain
+  fitting-numbers e =
+      let t = both-0 (plain w) (eqb (r .«seq_parameter_set_id») (x .picture .«seq_parameter_set_id»)) (subst⁻¹ T e tt) in
+      T-true (plainNumbers (w .numbers)) (both-0 (plainNumbers (w .numbers)) _ t)
 
-  -- 25: the record's seq_parameter_set_id is not the picture set's
-  pub known-other : (out : List ℕ) → same ≡ false → knownOut x h out ≡ untouched (refusal noBits (pos 0) 0) out
-  unfolding knownOut written
-  known-other out q = rw q
+  known-is : (out : List ℕ) → knownOut x w out ≡ outOf (written (fitting && fields x .good (ofHeader r)) l out 0)
+  unfolding knownOut
+  known-is out = ap (λ (g : Bool). outOf (written g l out 0)) (sym (and-assoc (plain w) _ (fields x .good (ofHeader r))))
+
+  most : T (fields x .good (ofHeader r)) → length l ≤ 8 * 6144
+  most g = omega (arith, fields-short x .most (ofHeader r) g)
+
+  -- 25 at once
+  pub known-other : (out : List ℕ) → fitting ≡ false → knownOut x w out ≡ untouched (refusal noBits (pos 0) 0) out
+  unfolding written
+  known-other out q = known-is out ∙ rw q
 
   module _ (d : List ℕ) (len : length d ≡ 6144) where
-    room : T (fields x .good (ofHeader h)) → length l ≤ length (bitsOf d)
+    room : T (fields x .good (ofHeader r)) → length l ≤ length (bitsOf d)
     room g = let m = most g in room-bits d (length l) m (omega (arith, len))
 
     -- 25: a part was refused, which was not for want of room
-    pub known-stopped : (out : List ℕ) → same ≡ true → Stopped (fields x) (ofHeader h) d 0 → knownOut x h out ≡ untouched (refusal noBits (pos 0) 0) out
-    unfolding knownOut written
-    known-stopped out q w =
-        cases (fields x .good (ofHeader h))
+    pub known-stopped : (out : List ℕ) → Stopped (fields x) (ofHeader r) d 0 → knownOut x w out ≡ untouched (refusal noBits (pos 0) 0) out
+    unfolding written
+    known-stopped out y =
+        known-is out
+        ∙ cases (fields x .good (ofHeader r))
         (λ g.
-        let t : T (fields x .good (ofHeader h)) = rw g tt in
-        absurd (omega (arith, w .no-room t, room t, zero-add (length l))))
-        (λ g. rw (q, g))
+        let t : T (fields x .good (ofHeader r)) = rw g tt in
+        absurd (omega (arith, y .no-room t, room t, zero-add (length l))))
+        (λ g. rw (g, and-false fitting))
 
-    module _ {d' : List ℕ} {c : Cursor} (w : Done (fields x) (ofHeader h) d 0 d' c) where
+    module _ {d' : List ℕ} {c : Cursor} (y : Done (fields x) (ofHeader r) d 0 d' c) where
       at-is : c .at ≡ length l
-      at-is = w .place ∙ zero-add (length l)
+      at-is = y .place ∙ zero-add (length l)
 
       pub done-most : c .at ≤ 8 * 6144
-      done-most = rw at-is (most (w .is-good))
+      done-most = rw at-is (most (y .is-good))
 
       -- all parts were written: their bytes go out
-      pub known-done : (out : List ℕ) → same ≡ true → copied d' (c .at) out ≡ knownOut x h out
-      unfolding knownOut
+      pub known-done : (out : List ℕ) → fitting ≡ true → copied d' (c .at) out ≡ knownOut x w out
       known-done out q =
-          (λ i. copied (w .now-is i) (at-is i) out)
-          ∙ copied-written d l out (most (w .is-good)) (omega (arith, len, most (w .is-good)))
-          ∙ ap (λ (g : Bool). outOf (written g l out 0)) (sym (rw (q, T-true (fields x .good (ofHeader h)) (w .is-good))))
+          (λ i. copied (y .now-is i) (at-is i) out)
+          ∙ copied-written d l out (most (y .is-good)) (omega (arith, len, most (y .is-good)))
+          ∙ ap (λ (g : Bool). outOf (written g l out 0)) (sym (rw (q, T-true (fields x .good (ofHeader r)) (y .is-good))))
+          ∙ sym (known-is out)

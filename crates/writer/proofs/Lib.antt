@@ -1,8 +1,9 @@
 pub mod Stages
 pub mod Fields
-pub mod Unused
+pub mod Entries
 pub mod OperationLoop
 pub mod WeightLoop
+pub mod PlainLoop
 pub mod Shapes
 pub mod Passed
 pub mod Answers

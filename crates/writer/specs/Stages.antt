@@ -19,6 +19,8 @@ use Rattle.syntax.specs.declared.record.Quantiser.{Quantiser}
 use Rattle.syntax.specs.declared.record.Filter.{Filter}
 use Rattle.syntax.specs.declared.record.SliceHeader.{SliceHeader}
 use Rattle.syntax.specs.SliceHeader.{sliceType, modifications, predWeightTable, decRefPicMarking, quantiser, filter, Parts, parts, ofHeader}
+use Rattle.short.specs.Short.{HeaderWords}
+use Rattle.record.specs.Record.{headerFrom, plain}
 use Rattle.writer.specs.declared.write.HeaderWrote.{HeaderWrote}
 use Rattle.writer.specs.Write.{HeaderOut, untouched, outOf}
 
@@ -41,9 +43,9 @@ fields x = seq knownLead (λ l. parts x (l .1 .0))
 abbrev pub isKnown : Context → SliceHeader → Bool
 isKnown x h = eqb (h .«seq_parameter_set_id») (x .picture .«seq_parameter_set_id») && fields x .good (ofHeader h)
 
--- the header written, its sets known
-unfoldable pub knownOut : Context → SliceHeader → List ℕ → HeaderOut
-knownOut x h out = outOf (written (isKnown x h) (fields x .bits (ofHeader h)) out 0)
+-- the header that words hold, written, its sets known
+unfoldable pub knownOut : Context → HeaderWords → List ℕ → HeaderOut
+knownOut x w out = outOf (written (plain w && isKnown x (headerFrom w)) (fields x .bits (ofHeader (headerFrom w))) out 0)
 
 -- the bytes of the first n bits of d go to the front of the buffer: 26 where there is no room for them
 unfoldable pub copied : List ℕ → ℕ → List ℕ → HeaderOut

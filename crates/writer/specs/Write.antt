@@ -1,8 +1,9 @@
 -- Writing a slice header into a lent buffer, as document 01 has it ('Refusal numbers', its last lines; 'The header, field by field', its last lines).
 use Prim.Native.Nat.{ℕ}
 use mathlib.Core.List.{List}
+use mathlib.Core.Bool.{Bool, true, _&&_}
 use lib.Dec.{leb}
-use lib.IntN.{pos}
+use lib.IntN.{ℤ, pos}
 use Rattle.bits.specs.Refusals.{pick, refusal}
 use Rattle.bits.specs.Answers.{none}
 use Rattle.bits.specs.Put.{Written, written}
@@ -16,6 +17,8 @@ use Rattle.table.specs.Tables.{pictureAt, sequenceAt}
 use Rattle.syntax.specs.declared.context.UnitKind.{UnitKind}
 use Rattle.syntax.specs.declared.record.SliceHeader.{SliceHeader}
 use Rattle.syntax.specs.SliceHeader.{header}
+use Rattle.short.specs.Short.{HeaderWords}
+use Rattle.record.specs.Record.{headerFrom, plain}
 use Rattle.writer.specs.declared.given.ExtensionGiven.{ExtensionGiven}
 use Rattle.writer.specs.declared.given.KindGiven.{KindGiven}
 use Rattle.writer.specs.declared.sets.SetsFor.{SetsFor}
@@ -58,18 +61,31 @@ wroteOf (Wrote.Refused r) = HeaderWrote.Refused r
 abbrev pub outOf : Written → HeaderOut
 outOf w = record { answer = wroteOf (w .answer); left = w .left }
 
--- 25, then 26, then the header's bits from the front of the buffer, with zeros to the end of their last byte
-unfoldable pub bitsOut : Table → UnitKind → SliceHeader → List ℕ → HeaderOut
-bitsOut t n h out = outOf (written (header t n .good h) (header t n .bits h) out 0)
+-- 25, where there is no such record or where it has no bits, then 26, then the header's bits from the front of the buffer, with zeros to the end of their last byte
+unfoldable pub bitsOut : Bool → Table → UnitKind → SliceHeader → List ℕ → HeaderOut
+bitsOut ok t n h out = outOf (written (ok && header t n .good h) (header t n .bits h) out 0)
 
-abbrev pub afterSets : Table → UnitKind → SliceHeader → List ℕ → SetsFor → HeaderOut
-afterSets t n h out (SetsFor.There p s) = bitsOut t n h out
-afterSets t n h out (SetsFor.Refused r) = untouched r out
+abbrev pub afterSets : Bool → Table → UnitKind → SliceHeader → List ℕ → SetsFor → HeaderOut
+afterSets ok t n h out (SetsFor.There p s) = bitsOut ok t n h out
+afterSets ok t n h out (SetsFor.Refused r) = untouched r out
 
-abbrev pub afterKind : Table → SliceHeader → List ℕ → KindGiven → HeaderOut
-afterKind t h out (KindGiven.Of n) = afterSets t n h out (setsFor t (h .«pic_parameter_set_id»))
-afterKind t h out (KindGiven.Refused r) = untouched r out
+abbrev pub afterKind : Bool → Table → SliceHeader → List ℕ → KindGiven → HeaderOut
+afterKind ok t h out (KindGiven.Of n) = afterSets ok t n h out (setsFor t (h .«pic_parameter_set_id»))
+afterKind ok t h out (KindGiven.Refused r) = untouched r out
 
--- a first byte, an extension or none, and the record, by the table
-unfoldable pub writeHeader : Table → ℕ → ExtensionGiven → SliceHeader → List ℕ → HeaderOut
-writeHeader t first x h out = afterKind t h out (kindGiven first x)
+-- a first byte, an extension or none, and the record, where there is one, by the table
+unfoldable pub writeWhere : Bool → Table → ℕ → ExtensionGiven → SliceHeader → List ℕ → HeaderOut
+writeWhere ok t first x h out = afterKind ok t h out (kindGiven first x)
+
+-- a record
+abbrev pub writeHeader : Table → ℕ → ExtensionGiven → SliceHeader → List ℕ → HeaderOut
+writeHeader t first x h out = writeWhere true t first x h out
+
+-- the record that words hold. There is none where a mark or a flag is over 1 or a count over its list's capacity; words behind a count are not looked at
+unfoldable pub writeWords : Table → ℕ → ExtensionGiven → HeaderWords → List ℕ → HeaderOut
+writeWords t first x w out = writeWhere (plain w) t first x (headerFrom w) out
+
+-- the arrays that a caller lends
+abbrev pub headerWords : List ℕ → List ℤ → (l0 l1 marking : List ℕ) → (w0 w1 : List ℤ) → HeaderWords
+headerWords numbers signed l0 l1 marking w0 w1 =
+    record { numbers = numbers; signed = signed; l0 = l0; l1 = l1; marking = marking; w0 = w0; w1 = w1 }

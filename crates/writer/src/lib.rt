@@ -12,5 +12,6 @@ mod weight_table; // pred_weight_table( )
 mod marking; // dec_ref_pic_marking( )
 mod quantiser; // cabac_init_idc to slice_qs_delta
 mod filter; // disable_deblocking_filter_idc to slice_group_change_cycle
+mod plain; // whether words hold a record
 mod whole; // all parts in order
 pub mod write; // the header written into a lent buffer

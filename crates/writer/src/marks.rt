@@ -35,6 +35,16 @@ pub(crate) fn fitting(there: bool, mark: bool, zero: bool) -> bool
 
 // ---- a number
 
+// A number that may be absent, of its two words.
+pub(crate) fn number_of(there: u32, value: u32) -> MarkedNumber
+    ensures { λ r. ⌜ r ≡ record { there = not (eqb there 0); value = value } ⌝ }
+{
+    MarkedNumber {
+        there: there != 0,
+        value,
+    }
+}
+
 // ue(v).
 pub(crate) fn put_number(d: &mut [u8], c: Cursor, v: u32) -> Cursor
     ensures { λ r. ⌜ PutTo ue v (now (d .entry)) (c .at) (now (d .exit)) r ⌝ }
@@ -151,6 +161,16 @@ pub(crate) fn put_given(d: &mut [u8], c: Cursor, there: bool, v: u32) -> Cursor
 }
 
 // ---- a flag
+
+// A flag that may be absent, of its two words.
+pub(crate) fn flag_of(there: u32, value: u32) -> MarkedFlag
+    ensures { λ r. ⌜ r ≡ record { there = not (eqb there 0); value = not (eqb value 0) } ⌝ }
+{
+    MarkedFlag {
+        there: there != 0,
+        value: value != 0,
+    }
+}
 
 pub(crate) fn put_flag(d: &mut [u8], c: Cursor, b: bool) -> Cursor
     ensures { λ r. ⌜ PutTo flag b (now (d .entry)) (c .at) (now (d .exit)) r ⌝ }

@@ -1,4 +1,5 @@
 // pred_weight_table( ): entries of luma and chroma weights, one for each active reference.
+use crate::marks::number_of;
 use crate::marks::put_flag;
 use crate::marks::put_given_flag;
 use crate::marks::put_given_signed;
@@ -11,15 +12,16 @@ use codes::conditions::has_chroma;
 use codes::conditions::is_type;
 use codes::conditions::is_weighted;
 use syntax::context::Context;
-use syntax::marks::MarkedNumber;
-use syntax::record::PredWeightTable;
 use syntax::record::Weight;
-use syntax::record::WeightList;
 use weights::weights::count_if;
 ghost use mathlib.Core.Path.{_≡_};
-ghost use Rattle.fmt.specs.Arrays.{padded};
-ghost use Rattle.syntax.specs.SliceHeader.{weight, isNoWeight, weightList, predWeightTable};
+ghost use Prim.Native.Nat.{_*_, _≤_, _<_};
+ghost use lib.ListN.{drop};
+ghost use Rattle.syntax.specs.SliceHeader.{weight, weightList, predWeightTable};
 ghost use Rattle.weights.specs.Halves.{chromaHalf};
+ghost use Rattle.record.specs.Fields.{numberIn};
+ghost use Rattle.record.specs.Entries.{weightFrom, weightsFrom};
+ghost use Rattle.record.specs.Record.{weightTableFrom};
 ghost use Rattle.writer.specs.Places.{PutTo};
 
 // The chroma half of an entry, there only if `chroma`.
@@ -45,53 +47,44 @@ pub(crate) fn put_weight(d: &mut [u8], c: Cursor, chroma: bool, w: Weight) -> Cu
     put_chroma_half(d, c3, chroma, w)
 }
 
-// Whether an entry holds nothing.
-fn is_no_weight(w: Weight) -> bool
-    ensures { λ r. ⌜ r ≡ isNoWeight w ⌝ }
+// The entry at i: eight words in the syntax's order.
+fn weight_at(words: &[i32; 256], i: u32) -> Weight
+    requires { ⌜ i < 32 ⌝ }
+    ensures { λ r. ⌜ r ≡ weightFrom (drop (8 * i) (now (words .entry))) ⌝ }
 {
-    let cr = both(w.cr_weight == 0, w.cr_offset == 0);
-    let cb = both(w.cb_weight == 0, both(w.cb_offset == 0, cr));
-    let luma = both(w.luma_offset == 0, both(!w.chroma_weight_flag, cb));
-    both(!w.luma_weight_flag, both(w.luma_weight == 0, luma))
+    let k = 8 * (i as usize);
+    Weight {
+        luma_weight_flag: words[k] != 0,
+        luma_weight: words[k + 1],
+        luma_offset: words[k + 2],
+        chroma_weight_flag: words[k + 3] != 0,
+        cb_weight: words[k + 4],
+        cb_offset: words[k + 5],
+        cr_weight: words[k + 6],
+        cr_offset: words[k + 7],
+    }
 }
 
-// Whether a list has at most 32 entries, and unused ones are zero.
-fn is_tidy(w: WeightList) -> bool
-    ensures { λ r. ⌜ r ≡ padded isNoWeight 32 (w .count) (w .entries) ⌝ }
-{
-    if 32 < w.count {
-        return false;
-    }
-    let mut i = w.count as usize;
-    while i < 32 {
-        let x = w.entries[i];
-        if !is_no_weight(x) {
-            return false;
-        }
-        i += 1;
-    }
-    true
-}
-
-// A list of n entries.
+// A list of n entries, in the first `count` entries of its words.
 pub(crate) fn put_weight_list(
     d: &mut [u8],
     c: Cursor,
     chroma: bool,
     n: u32,
-    w: WeightList,
+    count: u32,
+    words: &[i32; 256],
 ) -> Cursor
-    ensures { λ r. ⌜ PutTo (weightList chroma n) w (now (d .entry)) (c .at) (now (d .exit)) r ⌝ }
+    requires { ⌜ count ≤ 32 ⌝ }
+    ensures { λ r. ⌜ PutTo (weightList chroma n) (weightsFrom count (now (words .entry))) (now (d .entry)) (c .at) (now (d .exit)) r ⌝ }
 {
-    if !both(w.count == n, is_tidy(w)) {
+    if count != n {
         return Cursor { at: NOWHERE };
     }
     let mut i: u32 = 0;
     let mut at = c;
-    while i < n {
-        let k = i as usize;
-        let x = w.entries[k];
-        at = put_weight(d, at, chroma, x);
+    while i < count {
+        let w = weight_at(words, i);
+        at = put_weight(d, at, chroma, w);
         i += 1;
     }
     at
@@ -105,21 +98,21 @@ pub(crate) fn put_pred_weight_table(
     slice_type: u32,
     n0: u32,
     n1: u32,
-    w: PredWeightTable,
+    numbers: &[u32; 57],
+    w0: &[i32; 256],
+    w1: &[i32; 256],
 ) -> Cursor
-    ensures { λ r. ⌜ PutTo (predWeightTable x «slice_type» n0 n1) w (now (d .entry)) (c .at) (now (d .exit)) r ⌝ }
+    requires { ⌜ (numberIn (now numbers) 37 ≤ 32) × (numberIn (now numbers) 38 ≤ 32) ⌝ }
+    ensures { λ r. ⌜ PutTo (predWeightTable x «slice_type» n0 n1) (weightTableFrom (now (numbers .entry)) (now (w0 .entry)) (now (w1 .entry))) (now (d .entry)) (c .at) (now (d .exit)) r ⌝ }
 {
     let weighted = is_weighted(x, slice_type);
     let chroma = has_chroma(x);
-    let l0 = w.l0;
-    let l1 = w.l1;
-    let luma = MarkedNumber {
-        there: w.there,
-        value: w.luma_log2_weight_denom,
-    };
-    let c1 = put_number_if(d, c, weighted, luma);
-    let c2 = put_number_if(d, c1, both(weighted, chroma), w.chroma_log2_weight_denom);
-    let c3 = put_weight_list(d, c2, chroma, count_if(weighted, n0), l0);
+    let luma_denom = number_of(numbers[33], numbers[34]);
+    let chroma_denom = number_of(numbers[35], numbers[36]);
+    let c1 = put_number_if(d, c, weighted, luma_denom);
+    let c2 = put_number_if(d, c1, both(weighted, chroma), chroma_denom);
+    let m = count_if(weighted, n0);
+    let c3 = put_weight_list(d, c2, chroma, m, numbers[37], w0);
     let n = count_if(both(weighted, is_type(slice_type, B)), n1);
-    put_weight_list(d, c3, chroma, n, l1)
+    put_weight_list(d, c3, chroma, n, numbers[38], w1)
 }

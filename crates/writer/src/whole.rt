@@ -13,15 +13,23 @@ use crate::weight_table::put_pred_weight_table;
 use bits::put::Wrote;
 use bits::read::Cursor;
 use bits::refusals::SLICE_TYPE;
+use record::fields::active_counts_of;
+use record::fields::filter_of;
+use record::fields::frame_of;
+use record::fields::order_count_of;
+use record::fields::quantiser_of;
 use syntax::context::Context;
 use syntax::marks::MarkedNumber;
 use syntax::record::Filter;
 use syntax::record::Quantiser;
-use syntax::record::SliceHeader;
+ghost use mathlib.Core.Bool.{true};
 ghost use mathlib.Core.Path.{_≡_};
 ghost use Prim.Native.Nat.{_≤_};
 ghost use Rattle.fmt.specs.Put.{Put};
 ghost use Rattle.syntax.specs.SliceHeader.{activeOf, ofHeader};
+ghost use Rattle.record.specs.Fields.{numberIn};
+ghost use Rattle.record.specs.Record.{plainNumbers, headerFrom};
+ghost use Rattle.writer.specs.Write.{headerWords};
 ghost use Rattle.writer.specs.Places.{PutTo};
 ghost use Rattle.writer.specs.Stages.{knownLead, back, middle, fields};
 
@@ -53,31 +61,62 @@ fn put_back(d: &mut [u8], c: Cursor, x: Context, slice_type: u32, q: Quantiser, 
 }
 
 // ref_pic_list_modification( ) and all that follows it, for lists of n0 and n1 references.
-fn put_middle(d: &mut [u8], c: Cursor, x: Context, h: SliceHeader, n0: u32, n1: u32) -> Cursor
-    ensures { λ r. ⌜ PutTo (middle x (h .«slice_type») n0 n1) (ofHeader h .1 .1 .1 .1) (now (d .entry)) (c .at) (now (d .exit)) r ⌝ }
+fn put_middle(
+    d: &mut [u8],
+    c: Cursor,
+    x: Context,
+    n0: u32,
+    n1: u32,
+    numbers: &[u32; 57],
+    signed: &[i32; 7],
+    l0: &[u32; 198],
+    l1: &[u32; 198],
+    marking: &[u32; 198],
+    w0: &[i32; 256],
+    w1: &[i32; 256],
+) -> Cursor
+    requires { ⌜ plainNumbers (now numbers) ≡ true ⌝ }
+    ensures { λ r. ⌜ PutTo (middle x (numberIn (now (numbers .entry)) 1) n0 n1) (ofHeader (headerFrom (headerWords (now (numbers .entry)) (now (signed .entry)) (now (l0 .entry)) (now (l1 .entry)) (now (marking .entry)) (now (w0 .entry)) (now (w1 .entry)))) .1 .1 .1 .1) (now (d .entry)) (c .at) (now (d .exit)) r ⌝ }
 {
-    let c1 = put_modifications(d, c, x, h.slice_type, h.modifications);
-    let c2 = put_pred_weight_table(d, c1, x, h.slice_type, n0, n1, h.pred_weight_table);
-    let c3 = put_marking(d, c2, x, h.dec_ref_pic_marking);
-    put_back(d, c3, x, h.slice_type, h.quantiser, h.filter)
+    let slice_type = numbers[1];
+    let c1 = put_modifications(d, c, x, slice_type, numbers, l0, l1);
+    let c2 = put_pred_weight_table(d, c1, x, slice_type, n0, n1, numbers, w0, w1);
+    let c3 = put_marking(d, c2, x, numbers, marking);
+    let q = quantiser_of(numbers, signed);
+    let f = filter_of(numbers, signed);
+    put_back(d, c3, x, slice_type, q, f)
 }
 
 // The header from the buffer's front on, by its sets. The record's seq_parameter_set_id is not looked at.
-pub(crate) fn put_header(d: &mut [u8], x: Context, h: SliceHeader) -> Wrote
+pub(crate) fn put_header(
+    d: &mut [u8],
+    x: Context,
+    numbers: &[u32; 57],
+    signed: &[i32; 7],
+    l0: &[u32; 198],
+    l1: &[u32; 198],
+    marking: &[u32; 198],
+    w0: &[i32; 256],
+    w1: &[i32; 256],
+) -> Wrote
     requires { ⌜ (x .picture .«num_ref_idx_l0_default_active_minus1» ≤ 31) × (x .picture .«num_ref_idx_l1_default_active_minus1» ≤ 31) ⌝ }
-    ensures { λ r. ⌜ Put (fields x) (ofHeader h) (now (d .entry)) 0 (now (d .exit)) r ⌝ }
+    requires plain { ⌜ plainNumbers (now numbers) ≡ true ⌝ }
+    ensures { λ r. ⌜ Put (fields x) (ofHeader (headerFrom (headerWords (now (numbers .entry)) (now (signed .entry)) (now (l0 .entry)) (now (l1 .entry)) (now (marking .entry)) (now (w0 .entry)) (now (w1 .entry))))) (now (d .entry)) 0 (now (d .exit)) r ⌝ }
 {
-    let c1 = put_lead(d, h.first_mb_in_slice, h.slice_type, h.pic_parameter_set_id);
-    let c2 = put_frame(d, c1, x, h.frame);
-    let c3 = put_order_count(d, c2, x, h.frame.field_pic_flag.value, h.order_count);
-    let c4 = put_active_counts(d, c3, h.slice_type, h.active_counts);
+    let slice_type = numbers[1];
+    let c1 = put_lead(d, numbers[0], slice_type, numbers[2]);
+    let c2 = put_frame(d, c1, x, frame_of(numbers));
+    let o = order_count_of(numbers, signed);
+    let c3 = put_order_count(d, c2, x, numbers[8] != 0, o);
+    let a = active_counts_of(numbers);
+    let c4 = put_active_counts(d, c3, slice_type, a);
     let n0 = active(
-        h.active_counts.num_ref_idx_l0_active_minus1,
+        a.num_ref_idx_l0_active_minus1,
         x.picture.num_ref_idx_l0_default_active_minus1,
     );
     let n1 = active(
-        h.active_counts.num_ref_idx_l1_active_minus1,
+        a.num_ref_idx_l1_active_minus1,
         x.picture.num_ref_idx_l1_default_active_minus1,
     );
-    reached(put_middle(d, c4, x, h, n0, n1))
+    reached(put_middle(d, c4, x, n0, n1, numbers, signed, l0, l1, marking, w0, w1))
 }

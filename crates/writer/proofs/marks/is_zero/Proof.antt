@@ -1,4 +1,4 @@
-use Rattle.writer.proofs.Fields.{zero-bits}
+use Rattle.record.proofs.Taken.{zero-bits}
 use Rattle.writer.proofs.marks.is_zero.Statement.{statement}
 use Rattle.writer.proofs.marks.is_zero.Tie as tie
 

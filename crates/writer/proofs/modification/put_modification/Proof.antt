@@ -1,4 +1,4 @@
-use mathlib.Core.Path.{refl, _∙_}
+use mathlib.Core.Path.{refl}
 use Rattle.syntax.specs.SliceHeader.{modification}
 use Rattle.writer.proofs.Stages.{on, shaped-to}
 use borrow.Author.Needs.{needs}
@@ -15,7 +15,7 @@ put-operations-if-requires : tie.Need-put-operations-if-requires
 put-operations-if-requires c κs = search needs
 
 same-length : tie.Need-same-length
-same-length c = c .before .before .put-operations-if .kept .0 ∙ c .before .before .before .before .before .before .before .put-flag-if .kept .0
+same-length c = search needs
 
 returns : tie.Need-returns
 unfolding modification

@@ -1,5 +1,7 @@
 use mathlib.Core.Path.{sym, _∙_}
+use borrow.Author.Tests.{eq-eqb, ne-eqb}
 use Rattle.syntax.specs.Lists.{operationsIf}
+use Rattle.writer.proofs.Entries.{none-held}
 use Rattle.writer.proofs.Fields.{given-there, given-absent, given-unfit}
 use borrow.Author.Needs.{needs}
 use Rattle.writer.proofs.operations.put_operations_if.Statement.{statement}
@@ -15,16 +17,13 @@ returns : tie.Need-returns
 unfolding operationsIf
 returns c = given-there _ _ _ _ _ (c .before .before .before .before .if1 .taken) (c .before .before .put-operations .ensures)
 
-is-none-requires : tie.Need-is-none-requires
-is-none-requires c κs = search needs
-
 returns-2 : tie.Need-returns-2
 unfolding operationsIf
-returns-2 c = given-absent _ _ _ _ _ (c .before .before .if1 .left) (sym (c .before .is-none .ensures) ∙ c .if2 .taken)
+returns-2 c = given-absent _ _ _ _ _ (c .before .if1 .left) (none-held _ _ (c .before .before .before .pre) ∙ eq-eqb _ _ (c .if2 .taken))
 
 returns-3 : tie.Need-returns-3
 unfolding operationsIf
-returns-3 c = given-unfit _ _ _ _ _ (c .before .before .if1 .left) (sym (c .before .is-none .ensures) ∙ c .if2 .left)
+returns-3 c = given-unfit _ _ _ _ _ (c .before .if1 .left) (none-held _ _ (c .before .before .before .pre) ∙ ne-eqb _ _ (c .if2 .left))
 
 pub put-operations-if-spec : {M : Type 1} → statement M
 put-operations-if-spec =
@@ -33,6 +32,5 @@ put-operations-if-spec =
     put-operations-requires
     same-length
     returns
-    is-none-requires
     returns-2
     returns-3)

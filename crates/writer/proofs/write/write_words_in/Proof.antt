@@ -1,0 +1,79 @@
+use mathlib.Core.Path.{_≡_, refl, sym, _∙_}
+use lib.ListN.{getD}
+use Rattle.header.specs.Lead.{tableOf}
+use Rattle.record.specs.Record.{headerFrom}
+use Rattle.writer.specs.Write.{headerWords, writeWhere, writeWords}
+use Rattle.writer.proofs.Known.{known-few, known-out}
+use borrow.Author.Needs.{needs}
+use Rattle.writer.proofs.write.write_words_in.Statement.{statement}
+use Rattle.writer.proofs.write.write_words_in.Tie as tie
+
+kind-given-requires : tie.Need-kind-given-requires
+kind-given-requires c κs = search needs
+
+enum-known-a1 : tie.Need-enum-known-a1
+enum-known-a1 c = search needs
+
+enum-told : tie.Need-enum-told
+enum-told c = search needs
+
+why-kind-requires : tie.Need-why-kind-requires
+why-kind-requires c κs = search needs
+
+returns : tie.Need-returns
+unfolding writeWords writeWhere
+returns c = rw (c .why-kind .ensures, ← c .before .before .before .kind-given .ensures, c .before .enum-told .given .1) (refl, refl)
+
+element-copy-out-sets-for : tie.Need-element-copy-out-sets-for
+element-copy-out-sets-for c = search needs
+
+sets-for-requires : tie.Need-sets-for-requires
+sets-for-requires c κs = search needs
+
+enum-known-a2 : tie.Need-enum-known-a2
+enum-known-a2 c = search needs
+
+enum-told-2 : tie.Need-enum-told-2
+enum-told-2 c = search needs
+
+why-sets-requires : tie.Need-why-sets-requires
+why-sets-requires c κs = search needs
+
+returns-2 : tie.Need-returns-2
+unfolding writeWords writeWhere headerFrom
+returns-2 c = rw (c .why-sets .ensures, ← c .before .before .before .before .before .before .before .before .kind-given .ensures, c .before .before .before .before .before .before .a1 .given .1, ← c .before .before .before .sets-for .ensures, c .before .enum-told2 .given .1) (refl, refl)
+
+write-known-requires : tie.Need-write-known-requires
+write-known-requires c κs =
+    let a = c .before .before .before .before .before .before .before .before .before .before .before .args in
+    let f = known-few (tableOf (a .sequences .now) (a .pictures .now)) (getD (a .numbers .now) 2 0) _ _ (sym (c .before .before .before .before .sets-for .ensures) ∙ c .before .before .a2 .given .1) in
+    (f .l0, f .l1)
+
+same-length : tie.Need-same-length
+same-length c = search needs
+
+returns-3 : tie.Need-returns-3
+unfolding writeWords writeWhere headerFrom
+returns-3 c =
+    let a = c .before .before .before .before .before .before .before .before .before .before .before .before .before .before .args in
+    let e = sym (c .before .before .before .before .before .before .before .sets-for .ensures) ∙ c .before .before .before .before .before .a2 .given .1 in
+    rw (← c .before .before .before .before .before .before .before .before .before .before .before .before .kind-given .ensures, c .before .before .before .before .before .before .before .before .before .before .a1 .given .1, e, ← known-out (tableOf (a .sequences .now) (a .pictures .now)) _ (headerWords (a .numbers .now) (a .signed .now) (a .l0 .now) (a .l1 .now) (a .marking .now) (a .w0 .now) (a .w1 .now)) (a .out .now) _ _ e) (c .before .before .write-known .ensures)
+
+pub write-words-in-spec : {M : Type 1} → statement M
+write-words-in-spec =
+    tie.close
+    (tie.spec
+    kind-given-requires
+    enum-known-a1
+    enum-told
+    why-kind-requires
+    returns
+    element-copy-out-sets-for
+    sets-for-requires
+    enum-known-a2
+    enum-told-2
+    why-sets-requires
+    returns-2
+    write-known-requires
+    same-length
+    returns-3)
