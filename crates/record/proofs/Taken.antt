@@ -56,7 +56,7 @@ module _ {A B : Type 0} (f : List B → A) (k : ℕ) where
 
 -- ---- a list's entries
 
-abbrev operationFrom : List ℕ → Operation
+abbrev pub operationFrom : List ℕ → Operation
 operationFrom words = (getD words 0 0, (getD words 1 0, getD words 2 0))
 
 pub operations-taken : (n : ℕ) (words : List ℕ) → operationsIn n words ≡ taken operationFrom 3 n words

@@ -6,7 +6,7 @@ use mathlib.Core.List.{List, [], _∷_}
 use lib.ListN.{take, drop}
 use Rattle.record.specs.Record.{within, withins}
 
-assoc : (a b c : Bool) → (a && b) && c ≡ a && (b && c)
+pub assoc : (a b c : Bool) → (a && b) && c ≡ a && (b && c)
 assoc true b c = refl
 assoc false b c = refl
 
