@@ -1,3 +1,4 @@
 pub mod Taken
 pub mod Tests
 pub mod Round
+pub mod Whole

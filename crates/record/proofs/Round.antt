@@ -124,6 +124,11 @@ operation-back (a ∷ []) h t = absurd (omega arith)
 operation-back (a ∷ b ∷ []) h t = absurd (omega arith)
 operation-back (a ∷ b ∷ c ∷ ws) h t = refl
 
+-- a count that fits its list is the list's
+pub count-from : (n : ℕ) (ws : List ℕ) → n ≤ 66 → operationsFrom n ws .count ≡ n
+unfolding operationsFrom toOperations
+count-from n ws h = rw (few-66 n h, operations-taken n ws) (length-taken operationFrom 3 n ws)
+
 -- the words that hold a list give it back
 pub operations-from-in : (o : Operations) (b : List ℕ) → T (okOperations o) → length b ≡ 198 → operationsFrom (o .count) (sets b 0 (listWords o)) ≡ o
 unfolding operationsFrom listWords
@@ -148,6 +153,10 @@ list-in-from n ws b h e f d =
 pub few-32 : (n : ℕ) → n ≤ 32 → atMost32 n ≡ n
 unfolding atMost32
 few-32 n h = rw (le-leb n 32 h)
+
+pub weights-count : (n : ℕ) (ws : List ℤ) → n ≤ 32 → weightsFrom n ws .count ≡ n
+unfolding weightsFrom
+weights-count n ws h = few-32 n h
 
 set-flag : (b : Bool) → isSetZ (flagWord b) ≡ b
 set-flag true = refl
