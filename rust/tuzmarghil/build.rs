@@ -5,7 +5,7 @@ use std::{env, fs};
 
 /// The crate that exports, and the files whose `#[repr(C)]` structs cross the boundary, or are made of the words that do (`Prefix` stands among them and is neither).
 const EXPORTS: &str = "exports";
-const RECORDS: [&str; 12] = [
+const RECORDS: [&str; 13] = [
     "table/src/sets.rt",
     "table/src/table.rt",
     "syntax/src/marks.rt",
@@ -18,10 +18,12 @@ const RECORDS: [&str; 12] = [
     "exports/src/walks.rt",
     "writer/src/given.rt",
     "exports/src/writes.rt",
+    "exports/src/starts.rt",
 ];
 
-/// The file that lays a header's fields down as words.
-const LAYOUT: &str = "crates/short/src/fields.rt";
+/// The file that lays a header's fields down as words, and the one that has the number of the boundary's layout.
+const FIELDS: &str = "crates/short/src/fields.rt";
+const LAYOUT: &str = "crates/exports/src/layout.rt";
 
 fn main() {
     let here = PathBuf::from(env::var_os("CARGO_MANIFEST_DIR").unwrap());
@@ -35,7 +37,9 @@ fn main() {
         .iter()
         .map(|file| records(&root.join("crates").join(file)))
         .collect();
-    fs::write(out.join("records.rs"), text + &layout(&root.join(LAYOUT))).unwrap();
+    let fields = fields(&root.join(FIELDS));
+    let layout = layout(&root.join(LAYOUT));
+    fs::write(out.join("records.rs"), text + &fields + &layout).unwrap();
 
     let name = format!("lib{EXPORTS}.a");
     fs::copy(archive(&root, &name), out.join(&name)).unwrap();
@@ -99,7 +103,7 @@ fn records(file: &Path) -> String {
 
 /// Where each field of a header stands among its words, as the proved code lays them down: from its lines come a function that lays them down in Rust and one that
 /// takes them up again.
-fn layout(file: &Path) -> String {
+fn fields(file: &Path) -> String {
     let source = fs::read_to_string(file).unwrap_or_else(|e| panic!("{}: {e}", file.display()));
     let part = |name: &str| -> Vec<String> {
         let start = format!("*{name} = [");
@@ -154,4 +158,12 @@ pub(crate) fn taken_up(numbers: &[u32; 57], signed: &[i32; 7]) -> HeaderShort {{
 }}
 "
     )
+}
+
+/// The line with the layout's number, for Rust.
+fn layout(file: &Path) -> String {
+    let source = fs::read_to_string(file).unwrap_or_else(|e| panic!("{}: {e}", file.display()));
+    let line = source.lines().find(|line| line.starts_with("const LAYOUT"));
+    let line = line.unwrap_or_else(|| panic!("{} has no LAYOUT", file.display()));
+    format!("/// The number of the boundary's layout.\npub {line}\n")
 }

@@ -1,7 +1,7 @@
 //! What reading a unit answers, as named fields in reading order: one list, which every form is written from.
 
 use tuzmarghil::raw::{HeaderShort, List, MarkedFlag, MarkedNumber, MarkedSigned, PrefixShort};
-use tuzmarghil::raw::{ReadOut, Weight, Weights, Words};
+use tuzmarghil::raw::{self, ReadOut, Weight, Weights, Words};
 use tuzmarghil::{NalHeaderExtension, Refusal, Table};
 
 /// The names of slice types, modulo 5.
@@ -145,12 +145,11 @@ impl Slice {
     #[inline]
     pub fn of(table: &Table, words: &Words) -> Slice {
         let header = words.header();
-        let picture = table.picture(header.pic_parameter_set_id);
-        let initial = picture.map_or(0, |set| set.pic_init_qp_minus26);
+        let (id, delta) = (header.pic_parameter_set_id, header.quantiser.slice_qp_delta);
         Slice {
             slice_type: header.slice_type,
             frame_num: header.frame.frame_num,
-            qp: 26 + i64::from(initial) + i64::from(header.quantiser.slice_qp_delta),
+            qp: raw::final_qp(table.as_raw(), id, delta),
         }
     }
 

@@ -9,8 +9,8 @@ use crate::totals::{Quantisers, Totals};
 use crate::Ending;
 use anyhow::Result;
 use std::path::Path;
-use tuzmarghil::raw::ReadOut;
-use tuzmarghil::{StreamReport, Table};
+use tuzmarghil::raw::{self, ReadOut};
+use tuzmarghil::{Refusal, StreamReport, Table};
 
 /// Which command it is.
 #[derive(Clone, Copy, PartialEq, Eq)]
@@ -138,14 +138,15 @@ impl Units<'_> {
         let (place, length) = (r.place as i64, r.length as i64);
         let line = &mut self.line;
         match self.asked.format {
+            Format::Text if kind == Kind::List => self.list(r),
             Format::Text => {
                 line.extend_from_slice(b"unit place=");
                 number(line, place);
                 line.extend_from_slice(b" length=");
                 number(line, length);
                 line.push(b' ');
-                if read.answer == 1 && kind != Kind::Headers {
-                    slice_text(&slice, kind == Kind::Qp, line);
+                if read.answer == 1 && kind == Kind::Qp {
+                    slice_text(&slice, line);
                 } else {
                     let (to, more, why) = (&mut *line, true, self.terminal);
                     fields(kind, r, &slice, &mut Text { to, more, why });
@@ -156,6 +157,23 @@ impl Units<'_> {
             Format::Csv => form::row(line, columns, place, length, |form| {
                 fields(kind, r, &slice, form)
             }),
+        }
+    }
+
+    /// A unit's line of the listing, as the proved library has it; a refusal's reason behind it, for who reads it.
+    fn list(&mut self, r: &StreamReport<'_>) {
+        let (read, words) = r.raw();
+        let (place, length) = (r.place as usize, r.length as usize);
+        let mut line = [0; 128];
+        let table = self.table.as_raw();
+        let text = raw::unit_line(&mut line, table, place, length, r.bytes(), read, words);
+        self.line.extend_from_slice(text);
+        if self.terminal && read.answer == 3 {
+            self.line.pop();
+            let why = Refusal::new(read.number, read.value);
+            self.line.extend_from_slice(b": ");
+            self.line.extend_from_slice(why.reason().as_bytes());
+            self.line.push(b'\n');
         }
     }
 
@@ -197,8 +215,9 @@ impl Units<'_> {
         let name = clip.name();
         if self.lines && text && kind == Kind::List {
             let (units, refused) = (self.totals.units, self.totals.refused);
-            let end = format!("end units={units} refused={refused}\n");
-            self.out.write(end.as_bytes())?;
+            let mut line = [0; 128];
+            let end = raw::end_line(&mut line, units as usize, refused as usize);
+            self.out.write(end)?;
         }
         let sums = match kind {
             Kind::Qp => self.quantisers.lines(),
@@ -235,14 +254,12 @@ fn fields(kind: Kind, r: &StreamReport<'_>, slice: &Slice, form: &mut impl Form)
     }
 }
 
-/// A slice as document 01's listing has it; `tuz qp` names its type too.
-fn slice_text(slice: &Slice, named: bool, to: &mut Vec<u8>) {
+/// A slice as `tuz qp` tells it: as in the listing, with its type by name.
+fn slice_text(slice: &Slice, to: &mut Vec<u8>) {
     to.extend_from_slice(b"slice type=");
     number(to, slice.slice_type.into());
-    if named {
-        to.extend_from_slice(b" family=");
-        to.extend_from_slice(slice.family().as_bytes());
-    }
+    to.extend_from_slice(b" family=");
+    to.extend_from_slice(slice.family().as_bytes());
     to.extend_from_slice(b" frame=");
     number(to, slice.frame_num.into());
     to.extend_from_slice(b" qp=");

@@ -55,6 +55,7 @@ mod write;
 
 pub use nal::{
     NalHeader, NalHeaderExtension, NalHeaderMvcExtension, NalHeaderSvcExtension, UnitType,
+    UnitTypeError,
 };
 pub use prefix::{DecRefBasePicMarking, DecRefBasePicMarkingOp, PrefixNalUnit, PrefixNalUnitRef};
 pub use refusal::Refusal;

@@ -1,5 +1,6 @@
 //! A unit's first byte and its extension.
 
+use crate::raw;
 use crate::Refusal;
 use std::fmt;
 
@@ -55,14 +56,31 @@ const NAMED: [(u8, UnitType); 19] = [
     (21, UnitType::SliceExtensionViewComponent),
 ];
 
+/// A number that is no `nal_unit_type`.
+#[derive(PartialEq, Eq, Debug, Copy, Clone)]
+pub enum UnitTypeError {
+    /// A type has five bits.
+    ValueOutOfRange(u8),
+}
+
+impl fmt::Display for UnitTypeError {
+    fn fmt(&self, f: &mut fmt::Formatter<'_>) -> fmt::Result {
+        let UnitTypeError::ValueOutOfRange(id) = self;
+        write!(f, "{id} is no nal_unit_type, which is 0 to 31")
+    }
+}
+
+impl std::error::Error for UnitTypeError {}
+
 impl UnitType {
-    /// The type with this number, of which the low five bits count.
-    pub fn for_id(id: u8) -> UnitType {
-        let id = id % 32;
-        match NAMED.iter().find(|(n, _)| *n == id) {
-            Some((_, named)) => *named,
-            None if (17..24).contains(&id) => UnitType::Reserved(id),
-            None => UnitType::Unspecified(id),
+    /// The type with this number, 0 to 31.
+    pub fn for_id(id: u8) -> Result<UnitType, UnitTypeError> {
+        let named = || NAMED.iter().find(|(n, _)| *n == id).map(|(_, t)| *t);
+        match (raw::unit_type(id), named()) {
+            (1, Some(named)) => Ok(named),
+            (2, _) => Ok(UnitType::Unspecified(id)),
+            (3, _) => Ok(UnitType::Reserved(id)),
+            _ => Err(UnitTypeError::ValueOutOfRange(id)),
         }
     }
 
@@ -82,13 +100,10 @@ pub struct NalHeader(u8);
 impl NalHeader {
     /// A first byte; refusal 2 where its top bit is set.
     pub fn new(byte: u8) -> Result<NalHeader, Refusal> {
-        if byte > 127 {
-            return Err(Refusal {
-                number: 2,
-                value: 0,
-            });
+        match raw::nal_header(byte) {
+            out if out.number == 0 => Ok(NalHeader(byte)),
+            out => Err(Refusal::new(out.number, out.value)),
         }
-        Ok(NalHeader(byte))
     }
 
     pub(crate) fn from_byte(byte: u8) -> NalHeader {
@@ -97,12 +112,13 @@ impl NalHeader {
 
     /// `nal_ref_idc`
     pub fn nal_ref_idc(self) -> u8 {
-        self.0 >> 5 & 3
+        raw::nal_header(self.0).nal_ref_idc
     }
 
     /// `nal_unit_type`
     pub fn nal_unit_type(self) -> UnitType {
-        UnitType::for_id(self.0)
+        let id = raw::nal_header(self.0).nal_unit_type;
+        UnitType::for_id(id).expect("five bits are a type")
     }
 }
 
@@ -129,18 +145,12 @@ pub struct NalHeaderMvcExtension(pub [u8; 3]);
 #[derive(Copy, Clone, PartialEq, Eq)]
 pub struct NalHeaderSvcExtension(pub [u8; 3]);
 
-/// The field of this many bits that starts at a bit of the three bytes.
-fn field(bytes: [u8; 3], at: u32, bits: u32) -> u32 {
-    let word = u32::from_be_bytes([0, bytes[0], bytes[1], bytes[2]]);
-    word >> (24 - at - bits) & ((1 << bits) - 1)
-}
-
 macro_rules! fields {
-    ($type:ident: $($name:ident $kind:ty = $at:literal, $bits:literal, $as:expr;)*) => {
+    ($type:ident $part:ident: $($name:ident $kind:ty;)*) => {
         impl $type { $(
             #[doc = concat!("`", stringify!($name), "`")]
             pub fn $name(&self) -> $kind {
-                $as(field(self.0, $at, $bits))
+                raw::extension(self.0).$part.$name
             }
         )* }
         impl fmt::Debug for $type {
@@ -153,38 +163,25 @@ macro_rules! fields {
     };
 }
 
-fn flag(n: u32) -> bool {
-    n == 1
+fields! { NalHeaderMvcExtension mvc:
+    non_idr_flag bool;
+    priority_id u8;
+    view_id u16;
+    temporal_id u8;
+    anchor_pic_flag bool;
+    inter_view_flag bool;
 }
 
-fn byte(n: u32) -> u8 {
-    n as u8
-}
-
-fn word(n: u32) -> u16 {
-    n as u16
-}
-
-// name, type, first bit, width
-fields! { NalHeaderMvcExtension:
-    non_idr_flag bool = 1, 1, flag;
-    priority_id u8 = 2, 6, byte;
-    view_id u16 = 8, 10, word;
-    temporal_id u8 = 18, 3, byte;
-    anchor_pic_flag bool = 21, 1, flag;
-    inter_view_flag bool = 22, 1, flag;
-}
-
-fields! { NalHeaderSvcExtension:
-    idr_flag bool = 1, 1, flag;
-    priority_id u8 = 2, 6, byte;
-    no_inter_layer_pred_flag bool = 8, 1, flag;
-    dependency_id u8 = 9, 3, byte;
-    quality_id u8 = 12, 4, byte;
-    temporal_id u8 = 16, 3, byte;
-    use_ref_base_pic_flag bool = 19, 1, flag;
-    discardable_flag bool = 20, 1, flag;
-    output_flag bool = 21, 1, flag;
+fields! { NalHeaderSvcExtension svc:
+    idr_flag bool;
+    priority_id u8;
+    no_inter_layer_pred_flag bool;
+    dependency_id u8;
+    quality_id u8;
+    temporal_id u8;
+    use_ref_base_pic_flag bool;
+    discardable_flag bool;
+    output_flag bool;
 }
 
 /// The three bytes after the first one of types 14, 20 and 21.
@@ -198,10 +195,10 @@ pub enum NalHeaderExtension {
 impl NalHeaderExtension {
     /// By the first bit: set is SVC, clear is MVC.
     pub fn from_bytes(bytes: [u8; 3]) -> NalHeaderExtension {
-        if bytes[0] < 128 {
-            NalHeaderExtension::Mvc(NalHeaderMvcExtension(bytes))
-        } else {
+        if raw::extension(bytes).is_svc {
             NalHeaderExtension::Svc(NalHeaderSvcExtension(bytes))
+        } else {
+            NalHeaderExtension::Mvc(NalHeaderMvcExtension(bytes))
         }
     }
 
@@ -216,7 +213,7 @@ impl NalHeaderExtension {
     /// The extension of a whole unit, where its type has one.
     pub fn of_unit(unit: &[u8]) -> Option<NalHeaderExtension> {
         match unit {
-            [first, a, b, c, ..] if [14, 20, 21].contains(&(first % 32)) => {
+            [first, a, b, c, ..] if raw::nal_header(*first).has_extension => {
                 Some(NalHeaderExtension::from_bytes([*a, *b, *c]))
             }
             _ => None,

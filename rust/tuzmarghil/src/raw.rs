@@ -3,6 +3,8 @@
 //! The structs are taken from the Rattle sources by build.rs: nothing is declared twice. What is absent is zero, with its mark `there` clear.
 #![allow(missing_docs)]
 
+use std::sync::atomic::{AtomicBool, Ordering::Relaxed};
+
 pub use crate::words::{List, ListWords, NumberWords, SignedWords, WeightWords, Weights, Words};
 
 include!(concat!(env!("OUT_DIR"), "/records.rs"));
@@ -10,6 +12,26 @@ include!(concat!(env!("OUT_DIR"), "/records.rs"));
 // A struct result of over 16 bytes goes through a pointer that stands first: on x86-64 by the C convention, elsewhere because bench/native-archive compiles the
 // module made for x86-64. So it is written out here, and the same text serves both. A slice is a pointer and a length.
 extern "C" {
+    fn tuz_layout() -> u32;
+    fn tuz_nal_header(first: u8) -> NalHeaderOut;
+    fn tuz_unit_type(id: u8) -> u32;
+    fn tuz_extension(out: *mut ExtensionOut, b1: u8, b2: u8, b3: u8);
+    fn tuz_final_qp(pictures: *const [u32; 2048], id: u32, delta: i32) -> i64;
+    fn tuz_final_qs(pictures: *const [u32; 2048], id: u32, delta: i32) -> i64;
+    fn tuz_unit_line(
+        line: *mut Line,
+        pictures: *const [u32; 2048],
+        place: usize,
+        length: usize,
+        unit: *const u8,
+        unit_len: usize,
+        answer: u32,
+        number: u8,
+        value: i64,
+        numbers: *const NumberWords,
+        signed: *const SignedWords,
+    ) -> usize;
+    fn tuz_end_line(line: *mut Line, units: usize, refused: usize) -> usize;
     fn tuz_sequence_at(out: *mut SequenceOut, table: *const Table, id: u32);
     fn tuz_picture_at(out: *mut PictureOut, table: *const Table, id: u32);
     fn tuz_put_sequence(table: *mut Table, id: u32, set: Sequence) -> ChangedOut;
@@ -92,9 +114,94 @@ macro_rules! plain {
     )* };
 }
 
-plain!(Table Sequence Picture SequenceOut PictureOut HeaderShort ReadOut WalkOut WroteOut);
+plain!(Table Sequence Picture SequenceOut PictureOut HeaderShort ReadOut WalkOut WroteOut ExtensionOut);
+
+/// A line of a listing.
+pub type Line = [u8; 128];
+
+/// Whether the archive that is linked has been asked for its layout.
+static ASKED: AtomicBool = AtomicBool::new(false);
+
+/// Comes before every call of the archive: one that was built from other sources could take the arguments for something else.
+#[inline(always)]
+fn asked() {
+    if !ASKED.load(Relaxed) {
+        ask();
+    }
+}
+
+#[cold]
+fn ask() {
+    // SAFETY: it takes nothing, and has had no other form.
+    let layout = unsafe { tuz_layout() };
+    assert_eq!(
+        layout, LAYOUT,
+        "the archive that is linked has another layout than this crate: does TUZ_ARCHIVE name an old one?"
+    );
+    ASKED.store(true, Relaxed);
+}
+
+pub fn nal_header(first: u8) -> NalHeaderOut {
+    asked();
+    // SAFETY: it takes a number and requires nothing.
+    unsafe { tuz_nal_header(first) }
+}
+
+pub fn unit_type(id: u8) -> u32 {
+    asked();
+    // SAFETY: it takes a number and requires nothing.
+    unsafe { tuz_unit_type(id) }
+}
+
+pub fn extension([b1, b2, b3]: [u8; 3]) -> ExtensionOut {
+    asked();
+    let mut out = ExtensionOut::default();
+    // SAFETY: the result lives through the call, which requires nothing.
+    unsafe { tuz_extension(&mut out, b1, b2, b3) };
+    out
+}
+
+pub fn final_qp(table: &Table, id: u32, delta: i32) -> i64 {
+    asked();
+    // SAFETY: the array lives through the call, which only reads it and requires nothing.
+    unsafe { tuz_final_qp(&table.pictures, id, delta) }
+}
+
+pub fn final_qs(table: &Table, id: u32, delta: i32) -> i64 {
+    asked();
+    // SAFETY: the array lives through the call, which only reads it and requires nothing.
+    unsafe { tuz_final_qs(&table.pictures, id, delta) }
+}
+
+/// A unit's line in a listing: its place and length in the recording, its bytes, and what reading it gave.
+pub fn unit_line<'a>(
+    line: &'a mut Line,
+    table: &Table,
+    place: usize,
+    length: usize,
+    unit: &[u8],
+    out: &ReadOut,
+    words: &Words,
+) -> &'a [u8] {
+    asked();
+    let (u, un) = (unit.as_ptr(), unit.len());
+    let (answer, number, value) = (out.answer, out.number as u8, out.value);
+    let (p, n, s) = (&table.pictures, &words.numbers, &words.signed);
+    // SAFETY: the pointer and the length are those of a live slice, the arrays live through the call, and it requires nothing.
+    let end = unsafe { tuz_unit_line(line, p, place, length, u, un, answer, number, value, n, s) };
+    &line[..end]
+}
+
+/// A listing's last line.
+pub fn end_line(line: &mut Line, units: usize, refused: usize) -> &[u8] {
+    asked();
+    // SAFETY: the line lives through the call, which requires nothing.
+    let end = unsafe { tuz_end_line(line, units, refused) };
+    &line[..end]
+}
 
 pub fn sequence_at(table: &Table, id: u32) -> SequenceOut {
+    asked();
     let mut out = SequenceOut::default();
     // SAFETY: both live through the call, which only reads the table and requires nothing.
     unsafe { tuz_sequence_at(&mut out, table, id) };
@@ -102,6 +209,7 @@ pub fn sequence_at(table: &Table, id: u32) -> SequenceOut {
 }
 
 pub fn picture_at(table: &Table, id: u32) -> PictureOut {
+    asked();
     let mut out = PictureOut::default();
     // SAFETY: both live through the call, which only reads the table and requires nothing.
     unsafe { tuz_picture_at(&mut out, table, id) };
@@ -109,11 +217,13 @@ pub fn picture_at(table: &Table, id: u32) -> PictureOut {
 }
 
 pub fn put_sequence(table: &mut Table, id: u32, set: Sequence) -> ChangedOut {
+    asked();
     // SAFETY: the table is borrowed for this call alone, which requires nothing.
     unsafe { tuz_put_sequence(table, id, set) }
 }
 
 pub fn put_picture(table: &mut Table, id: u32, set: Picture) -> ChangedOut {
+    asked();
     // SAFETY: the table is borrowed for this call alone, which requires nothing.
     unsafe { tuz_put_picture(table, id, set) }
 }
@@ -133,6 +243,7 @@ pub fn read_unit(
     words: &mut Words,
     out: &mut ReadOut,
 ) {
+    asked();
     let (q, p) = (&table.sequences, &table.pictures);
     let (u, un) = (unit.as_ptr(), unit.len());
     let (s, sn) = (scratch.as_mut_ptr(), scratch.len());
@@ -148,6 +259,7 @@ pub fn walk(
     words: &mut Words,
     out: &mut WalkOut,
 ) {
+    asked();
     let (q, p) = (&table.sequences, &table.pictures);
     let (r, rn) = (recording.as_ptr(), recording.len());
     let (s, sn) = (scratch.as_mut_ptr(), scratch.len());
@@ -162,6 +274,7 @@ pub fn write_header(
     words: &Words,
     buffer: &mut [u8],
 ) -> WroteOut {
+    asked();
     let mut out = WroteOut::default();
     let (q, p) = (&table.sequences, &table.pictures);
     let Words {

@@ -2,7 +2,6 @@
 
 use crate::raw;
 use crate::raw::{HeaderShort, List, MarkedFlag, MarkedNumber, MarkedSigned, Weights, Words};
-use crate::Picture;
 
 #[derive(Debug, Clone, Copy, PartialEq, Eq)]
 #[cfg_attr(feature = "serde", derive(serde::Serialize))]
@@ -236,17 +235,6 @@ pub struct SliceHeader {
 }
 
 impl SliceHeader {
-    /// SliceQPY: 26 + `pic_init_qp_minus26` + `slice_qp_delta`, by the picture set that the header names.
-    pub fn slice_qp(&self, picture: &Picture) -> i32 {
-        26 + picture.pic_init_qp_minus26 + self.slice_qp_delta
-    }
-
-    /// QSY, for slices of types SP and SI.
-    pub fn slice_qs(&self, picture: &Picture) -> Option<i32> {
-        self.slice_qs_delta
-            .map(|delta| 26 + picture.pic_init_qs_minus26 + delta)
-    }
-
     /// A record that the proved reader gave, and the words that it left.
     pub(crate) fn from_raw(h: &HeaderShort, words: &Words) -> SliceHeader {
         let (frame, order, active) = (&h.frame, &h.order_count, &h.active_counts);

@@ -45,16 +45,19 @@ impl Slice {
     /// # Ok::<(), tuzmarghil::Refusal>(())
     /// ```
     pub fn qp(&self, table: &Table) -> Option<i64> {
-        let picture = table.picture(self.header.pic_parameter_set_id)?;
-        let delta = self.header.slice_qp_delta;
-        Some(26 + i64::from(picture.pic_init_qp_minus26) + i64::from(delta))
+        let (id, delta) = (self.header.pic_parameter_set_id, self.header.slice_qp_delta);
+        table.picture(id)?;
+        Some(raw::final_qp(table.as_raw(), id, delta))
     }
 
     /// The final QS (QSY), of slices of types SP and SI.
     pub fn qs(&self, table: &Table) -> Option<i64> {
-        let picture = table.picture(self.header.pic_parameter_set_id)?;
-        let delta = self.header.slice_qs_delta?;
-        Some(26 + i64::from(picture.pic_init_qs_minus26) + i64::from(delta))
+        let (id, delta) = (
+            self.header.pic_parameter_set_id,
+            self.header.slice_qs_delta?,
+        );
+        table.picture(id)?;
+        Some(raw::final_qs(table.as_raw(), id, delta))
     }
 }
 
@@ -146,7 +149,9 @@ impl<'a> Reading<'a> {
         let (unit, out, words) = (self.bytes, self.read, self.words);
         let first = unit.first().copied().unwrap_or(0);
         match out.answer {
-            0 => Ok(Unit::Other(UnitType::for_id(out.number as u8))),
+            0 => Ok(Unit::Other(
+                UnitType::for_id(out.number as u8).expect("a unit has a type"),
+            )),
             1 => Ok(Unit::Slice(Box::new(Slice {
                 nal_header: NalHeader::from_byte(first),
                 extension: NalHeaderExtension::of_unit(unit),

@@ -189,7 +189,7 @@ fn b_field_words(words: &mut raw::Words) {
 
 #[test]
 fn fields_arrive() {
-    let (table, unit, bits, picture) = b_field();
+    let (table, unit, bits, _) = b_field();
     let mut scratch = Vec::new();
     let slice = match read_unit(&table, &unit, &mut scratch) {
         Ok(Unit::Slice(slice)) => slice,
@@ -268,7 +268,7 @@ fn fields_arrive() {
         slice_group_change_cycle: Some(11),
     };
     assert_eq!(slice.header, want);
-    assert_eq!(slice.header.slice_qp(&picture), 13);
+    assert_eq!(slice.qp(&table), Some(13));
 
     // and back to the words that the library gave
     let (mut words, mut out) = (raw::Words::default(), raw::ReadOut::default());
