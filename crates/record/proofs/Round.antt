@@ -7,8 +7,8 @@ use native.Mathlib.Omega.{arith}
 use native.Mathlib.Nat.{zero-add, mul-zero, mul-suc}
 use lib.Dec.{T, leb→le}
 use lib.IntN.{ℤ, pos, negsuc}
-use lib.ListN.{length, getD, take, drop, length-append, length-drop, take-append-drop}
-use lib.Seq.{sets, sets-eq, take-add, length-take-le, drop-append-seam}
+use lib.ListN.{length, getD, take, drop, replicate, length-replicate, length-drop, take-append-drop}
+use lib.Seq.{sets, sets-eq, length-sets, take-add, length-take-le, drop-append-seam}
 use borrow.Author.Tests.{le-leb}
 use Rattle.bits.specs.Refusals.{pick}
 use Rattle.fmt.specs.Arrays.{pad, padded}
@@ -22,9 +22,10 @@ use Rattle.syntax.specs.declared.record.WeightList.{WeightList}
 use Rattle.syntax.proofs.Operations.{of-to-operations, to-of-operations, few-operations, length-of-operations}
 use Rattle.syntax.proofs.Weights.{no-weight-is}
 use Rattle.weights.specs.Counts.{atMost32}
-use Rattle.words.specs.ListsLent.{operationWords, listWords}
-use Rattle.words.specs.WeightsLent.{flagWord, entryWords, weightWords}
-use Rattle.record.specs.Entries.{atMost66, isSetZ, operationsIn, operationsFrom, weightFrom, weightsIn, weightsFrom}
+use Rattle.words.specs.ListsLent.{operationWords, listWords, atMost66, emptiedList}
+use Rattle.words.specs.WeightsLent.{flagWord, entryWords, weightWords, emptiedWeights}
+use Rattle.words.proofs.Fronts.{length-flat}
+use Rattle.record.specs.Entries.{isSetZ, operationsIn, operationsFrom, weightFrom, weightsIn, weightsFrom}
 use Rattle.record.specs.Record.{isBitZ, plainWeights}
 use Rattle.record.proofs.Tests.{assoc}
 use Rattle.record.proofs.Taken.{taken, length-taken, operationFrom, operations-taken, weights-taken}
@@ -36,8 +37,13 @@ module _ {B : Type 0} where
   sets-front b ws h = sets-eq ws b 0 (omega arith) ∙ ap (λ (n : ℕ). ws ++ drop n b) (zero-add (length ws))
 
   -- what stands behind them is as before
-  pub behind-sets : (b ws : List B) → length ws ≤ length b → drop (length ws) (sets b 0 ws) ≡ drop (length ws) b
+  behind-sets : (b ws : List B) → length ws ≤ length b → drop (length ws) (sets b 0 ws) ≡ drop (length ws) b
   behind-sets b ws h = ap (drop (length ws)) (sets-front b ws h) ∙ drop-append-seam ws (drop (length ws) b)
+
+  behind-zeros : (z : B) (m : ℕ) (b : List B) → m ≤ length b → drop m (sets b 0 (replicate m z)) ≡ drop m b
+  behind-zeros z m b h =
+      let k = length-replicate m z in
+      ap (λ (j : ℕ). drop j (sets b 0 (replicate m z))) (sym k) ∙ behind-sets b (replicate m z) (omega arith) ∙ ap (λ (j : ℕ). drop j b) k
 
   -- the front of a list, over the front of one that agrees with it behind
   front-back : (m : ℕ) (ws b : List B) → m ≤ length ws → length b ≡ length ws → drop m b ≡ drop m ws → sets b 0 (take m ws) ≡ ws
@@ -48,11 +54,6 @@ module _ {B : Type 0} where
 -- ---- entries of k words each
 
 module _ {A B : Type 0} (f : List B → A) (k : ℕ) (words : A → List B) (size : (a : A) → length (words a) ≡ k) where
-  length-flat : (l : List A) → length (flatMap words l) ≡ k * length l
-  unfolding flatMap
-  length-flat [] = omega arith
-  length-flat (a ∷ l) = omega (arith, length-append (words a) (flatMap words l), size a, length-flat l, mul-suc k (length l))
-
   past : (a : A) (r : List B) → drop k (words a ++ r) ≡ r
   past a r = rw (← size a) (drop-append-seam (words a) r)
 
@@ -69,7 +70,7 @@ module _ {A B : Type 0} (f : List B → A) (k : ℕ) (words : A → List B) (siz
 
     pub taken-laid : (l : List A) (b : List B) → k * length l ≤ length b → taken f k (length l) (sets b 0 (flatMap words l)) ≡ l
     taken-laid l b h =
-        let n = length-flat l in
+        let n = length-flat words k size l in
         ap (taken f k (length l)) (sets-front b (flatMap words l) (omega arith)) ∙ told l (drop (length (flatMap words l)) b)
 
   -- a test of each entry's words
@@ -88,7 +89,7 @@ module _ {A B : Type 0} (f : List B → A) (k : ℕ) (words : A → List B) (siz
 
     pub every-laid : ((a : A) (r : List B) → T (ok (words a ++ r))) → (l : List A) (b : List B) → k * length l ≤ length b → T (every (length l) (sets b 0 (flatMap words l)))
     every-laid good l b h =
-        let n = length-flat l in
+        let n = length-flat words k size l in
         rw (sets-front b (flatMap words l) (omega arith)) (every-told good l (drop (length (flatMap words l)) b))
 
     -- an entry whose words pass the test gives them back
@@ -147,6 +148,15 @@ list-in-from n ws b h e f d =
     ap (λ (l : List Operation). sets b 0 (flatMap operationWords l)) (of-to-operations (operationsIn (atMost66 n) ws))
     ∙ rw (few-66 n h, operations-taken n ws)
     (laid-taken operationFrom 3 operationWords (λ o. refl) (λ ws. true) operation-back n ws b (omega arith) (every-any n ws) (f ∙ sym e) d)
+
+-- a list zeroed: what stands behind it is as before
+pub length-emptied : (n : ℕ) (ws : List ℕ) → length (emptiedList n ws) ≡ length ws
+unfolding emptiedList
+length-emptied n ws = length-sets ws 0 (replicate (3 * atMost66 n) 0)
+
+pub list-behind : (n : ℕ) (ws : List ℕ) → n ≤ 66 → length ws ≡ 198 → drop (3 * n) (emptiedList n ws) ≡ drop (3 * n) ws
+unfolding emptiedList
+list-behind n ws h e = rw (few-66 n h) (behind-zeros 0 (3 * n) ws (omega arith))
 
 -- ---- weights
 
@@ -244,3 +254,12 @@ weights-in-from n ws b h t e f d =
     (ap (λ (m : ℕ). sets b 0 (flatMap entryWords (take m (pad noWeight 32 (taken weightFrom 8 n ws))))) (sym k)
     ∙ ap (λ (l : List Weight). sets b 0 (flatMap entryWords l)) (unpad-pad noWeight 32 (taken weightFrom 8 n ws))
     ∙ laid-taken weightFrom 8 entryWords (λ w. refl) bits weight-back n ws b (omega arith) q (f ∙ sym e) d)
+
+-- weights zeroed: what stands behind them is as before
+pub length-emptied-weights : (n : ℕ) (ws : List ℤ) → length (emptiedWeights n ws) ≡ length ws
+unfolding emptiedWeights
+length-emptied-weights n ws = length-sets ws 0 (replicate (8 * atMost32 n) (pos 0))
+
+pub weights-behind : (n : ℕ) (ws : List ℤ) → n ≤ 32 → length ws ≡ 256 → drop (8 * n) (emptiedWeights n ws) ≡ drop (8 * n) ws
+unfolding emptiedWeights
+weights-behind n ws h e = rw (few-32 n h) (behind-zeros (pos 0) (8 * n) ws (omega arith))

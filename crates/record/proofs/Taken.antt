@@ -5,14 +5,13 @@ use mathlib.Core.List.{List, [], _∷_, _++_, map}
 use native.Mathlib.Omega.{arith}
 use native.Mathlib.Nat.{add-zero, mul-zero, mul-suc}
 use native.Mathlib.Numerals.{add-one}
-use lib.Dec.{eqb, leb}
+use lib.Dec.{eqb}
 use lib.IntN.{ℤ, pos, negsuc}
 use lib.ListN.{length, getD, drop, set, replicate}
 use lib.Seq.{getD-drop, drop-drop}
 use mir.Syntax.{w32}
 use mir.Val.{SFits, ofZ}
-use borrow.Author.Tests.{ne-eqb, leb-true}
-use Rattle.bits.proofs.Results.{cases}
+use borrow.Author.Tests.{ne-eqb}
 use Rattle.fmt.specs.Arrays.{pad}
 use Rattle.fmt.proofs.Arrays.{pad-none, pad-next, column-next}
 use Rattle.syntax.specs.Marks.{isZeroZ}
@@ -22,16 +21,13 @@ use Rattle.syntax.specs.declared.record.Operations.{Operations}
 use Rattle.syntax.specs.declared.record.Weight.{Weight}
 use Rattle.syntax.specs.declared.record.WeightList.{WeightList}
 use Rattle.weights.specs.Counts.{atMost32}
-use Rattle.record.specs.Entries.{atMost66, operationsIn, operationsFrom, isSetZ, weightFrom, weightsIn, weightsFrom}
+use Rattle.words.specs.ListsLent.{atMost66}
+use Rattle.record.specs.Entries.{operationsIn, operationsFrom, isSetZ, weightFrom, weightsIn, weightsFrom}
 
 -- a signed number is zero where its bits are
 pub zero-bits : (z : ℤ) → SFits w32 z → eqb (ofZ w32 z) 0 ≡ isZeroZ z
 zero-bits (pos n) f = refl
 zero-bits (negsuc n) f = ne-eqb (ofZ w32 (negsuc n)) 0 (λ h. omega (arith, h, f .sfits))
-
-pub at-most-66 : (n : ℕ) → atMost66 n ≤ 66
-unfolding atMost66
-at-most-66 n = cases (leb n 66) (λ t. rw t (leb-true n 66 t)) (λ t. rw t (omega arith))
 
 -- ---- entries of k words each
 

@@ -13,18 +13,11 @@ use Rattle.bits.specs.Refusals.{pick}
 use Rattle.bits.proofs.Results.{cases}
 use Rattle.fmt.proofs.Arrays.{padded-le}
 use Rattle.syntax.proofs.Operations.{few-operations}
-use Rattle.fmt.specs.Arrays.{padded}
-use Rattle.fmt.specs.Fmt.{shaped, when, until}
 use Rattle.fmt.proofs.Lawful.{both-0, both-1, T-true}
 use Rattle.table.specs.declared.table.Table.{Table}
-use Rattle.syntax.specs.Marks.{isZero, given}
-use Rattle.syntax.specs.Lists.{Kind, code, operands, entries, ofOperations, okOperations, operations, operationsIf}
-use Rattle.syntax.specs.SliceHeader.{isNoWeight, header, parts, modification, modifications, weightList, predWeightTable, decRefPicMarking}
-use Rattle.syntax.proofs.Goods.{seq-first, seq-rest, shaped-ok, shaped-from}
+use Rattle.syntax.specs.SliceHeader.{isNoWeight, header}
+use Rattle.syntax.proofs.Goods.{seq-first, seq-rest, shaped-from}
 use Rattle.syntax.specs.declared.context.UnitKind.{UnitKind}
-use Rattle.syntax.specs.declared.record.Operations.{Operations}
-use Rattle.syntax.specs.declared.record.Modification.{Modification}
-use Rattle.syntax.specs.declared.record.WeightList.{WeightList}
 use Rattle.syntax.specs.declared.marks.MarkedFlag.{MarkedFlag}
 use Rattle.syntax.specs.declared.marks.MarkedNumber.{MarkedNumber}
 use Rattle.syntax.specs.declared.record.SliceHeader.{SliceHeader}
@@ -32,11 +25,12 @@ use Rattle.syntax.specs.Prefix.{prefix}
 use Rattle.syntax.specs.declared.record.Prefix.{Prefix}
 use Rattle.words.specs.ListsLent.{listWords, prefixShort}
 use Rattle.words.specs.WeightsLent.{weightWords}
-use Rattle.short.specs.Short.{bit, numberWords, flagWords, shortOf, numbersOf, signedOf, HeaderWords, headerIn}
+use Rattle.short.specs.Short.{bit, numberWords, flagWords, shortOf, numbersOf, signedOf, HeaderWords, emptied, headerIn}
+use Rattle.short.proofs.Tidy.{InOrder, good-in-order, operationsIf-ok}
 use Rattle.record.specs.Fields.{numberIn, setIn, markedNumber, markedFlag, frameFrom, orderCountFrom, activeCountsFrom, quantiserFrom, filterFrom}
 use Rattle.record.specs.Entries.{operationsFrom, weightsFrom}
 use Rattle.record.specs.Record.{modificationsFrom, weightTableFrom, markingFrom, headerFrom, prefixFrom, within, withins, flags, plainNumbers, plainWeights, plain}
-use Rattle.record.proofs.Round.{operations-from-in, count-from, list-in-from, weights-from-in, weights-plain, weights-count, weights-in-from}
+use Rattle.record.proofs.Round.{operations-from-in, count-from, list-in-from, length-emptied, list-behind, weights-from-in, weights-plain, weights-count, weights-in-from, length-emptied-weights, weights-behind}
 
 -- ---- the parts without lists
 
@@ -68,48 +62,6 @@ module _ (h : SliceHeader) where
   unfolding filterFrom numbersOf signedOf
   filter-in = simp set-bit
 
--- ---- what a reading gives
-
-abbrev isPadded : WeightList → Bool
-isPadded l = padded isNoWeight 32 (l .count) (l .entries)
-
--- a header whose lists are as a reading leaves them: no more than their arrays hold, and zero behind their counts
-pub record Padded (h : SliceHeader) : Type 0 where
-  pub l0 : T (okOperations (h .modifications .l0 .operations))
-  pub l1 : T (okOperations (h .modifications .l1 .operations))
-  pub marking : T (okOperations (h .«dec_ref_pic_marking» .operations))
-  pub w0 : T (isPadded (h .«pred_weight_table» .l0))
-  pub w1 : T (isPadded (h .«pred_weight_table» .l1))
-
-list-good : (b : Bool) (k : Kind) (o : Operations) → T (operationsIf b k .good o) → T (okOperations o)
-unfolding operationsIf operations given when shaped
-list-good true k o g = both-0 (okOperations o) (until (code k) (k .closing) (operands k) entries .good (ofOperations o)) g
-list-good false k o g = both-1 (isZero (o .count)) (okOperations o) g
-
-modification-good : (mvc there : Bool) (m : Modification) → T (modification mvc there .good m) → T (okOperations (m .operations))
-unfolding modification
-modification-good mvc there m g = list-good _ _ (m .operations) (seq-rest _ _ _ (shaped-from _ _ _ _ m g))
-
-weights-good : (chroma : Bool) (n : ℕ) (l : WeightList) → T (weightList chroma n .good l) → T (isPadded l)
-unfolding weightList
-weights-good chroma n l g = shaped-ok _ _ _ _ l g
-
-pub padded-good : (t : Table) (n : UnitKind) (h : SliceHeader) → T (header t n .good h) → Padded h
-unfolding header parts modifications predWeightTable decRefPicMarking
-padded-good t n h g =
-    let p3 = seq-rest _ _ _ (seq-rest _ _ _ (seq-rest _ _ _ (seq-rest _ _ _ (shaped-from _ _ _ _ h g)))) in
-    let m = seq-rest _ _ _ (shaped-from _ _ _ _ (h .modifications) (seq-first _ _ _ p3)) in
-    let p4 = seq-rest _ _ _ p3 in
-    let w = seq-rest _ _ _ (seq-rest _ _ _ (shaped-from _ _ _ _ (h .«pred_weight_table») (seq-first _ _ _ p4))) in
-    let d = seq-rest _ _ _ (seq-rest _ _ _ (seq-rest _ _ _ (shaped-from _ _ _ _ (h .«dec_ref_pic_marking») (seq-first _ _ _ (seq-rest _ _ _ p4))))) in
-    record {
-      l0 = modification-good _ _ (h .modifications .l0) (seq-first _ _ _ m);
-      l1 = modification-good _ _ (h .modifications .l1) (seq-rest _ _ _ m);
-      marking = list-good _ _ (h .«dec_ref_pic_marking» .operations) d;
-      w0 = weights-good _ _ (h .«pred_weight_table» .l0) (seq-first _ _ _ w);
-      w1 = weights-good _ _ (h .«pred_weight_table» .l1) (seq-rest _ _ _ w);
-    }
-
 -- words as long as the arrays that hold them
 pub record Sized (b : HeaderWords) : Type 0 where
   pub numbers : length (b .numbers) ≡ 57
@@ -122,7 +74,7 @@ pub record Sized (b : HeaderWords) : Type 0 where
 
 -- ---- a header out of the words that hold it
 
-module _ (h : SliceHeader) (b : HeaderWords) (p : Padded h) (z : Sized b) where
+module _ (h : SliceHeader) (b : HeaderWords) (p : InOrder h) (z : Sized b) where
   abbrev held : HeaderWords
   held = headerIn h b
 
@@ -161,7 +113,7 @@ module _ (h : SliceHeader) (b : HeaderWords) (p : Padded h) (z : Sized b) where
 
 -- the words that hold a header that a reading gives, whatever they held before
 pub header-from-in : (t : Table) (n : UnitKind) (h : SliceHeader) (b : HeaderWords) → T (header t n .good h) → Sized b → headerFrom (headerIn h b) ≡ h
-header-from-in t n h b g = from-in h b (padded-good t n h g)
+header-from-in t n h b g = from-in h b (good-in-order t n h g)
 
 -- ---- and those words are plain
 
@@ -169,7 +121,7 @@ bit-small : (b : Bool) → leb (bit b) 1 ≡ true
 bit-small true = refl
 bit-small false = refl
 
-module _ (h : SliceHeader) (b : HeaderWords) (p : Padded h) (z : Sized b) where
+module _ (h : SliceHeader) (b : HeaderWords) (p : InOrder h) (z : Sized b) where
   numbers-plain : plainNumbers (numbersOf (shortOf h)) ≡ true
   unfolding plainNumbers numbersOf
   numbers-plain =
@@ -187,7 +139,7 @@ module _ (h : SliceHeader) (b : HeaderWords) (p : Padded h) (z : Sized b) where
   in-plain = rw (numbers-plain, weights-plain (h .«pred_weight_table» .l0) (b .w0) (p .w0) (z .w0), weights-plain (h .«pred_weight_table» .l1) (b .w1) (p .w1) (z .w1))
 
 pub plain-in : (t : Table) (n : UnitKind) (h : SliceHeader) (b : HeaderWords) → T (header t n .good h) → Sized b → plain (headerIn h b) ≡ true
-plain-in t n h b g = in-plain h b (padded-good t n h g)
+plain-in t n h b g = in-plain h b (good-in-order t n h g)
 
 -- ---- plain words out of the header that they hold
 
@@ -299,8 +251,37 @@ module _ (w : HeaderWords) where
 pub in-from : (w b : HeaderWords) → plain w ≡ true → Sized w → Sized b → Behind w b → headerIn (headerFrom w) b ≡ w
 in-from w b t z = back w (plain-says w (rw t tt)) z b
 
+-- ---- over the words themselves, with their entries zeroed
+
+pub emptied-sized : (b : HeaderWords) → Sized b → Sized (emptied b)
+unfolding emptied
+emptied-sized b z =
+    record {
+      numbers = z .numbers;
+      signed = z .signed;
+      l0 = length-emptied (numberIn (b .numbers) 29) (b .l0) ∙ z .l0;
+      l1 = length-emptied (numberIn (b .numbers) 32) (b .l1) ∙ z .l1;
+      marking = length-emptied (numberIn (b .numbers) 45) (b .marking) ∙ z .marking;
+      w0 = length-emptied-weights (numberIn (b .numbers) 37) (b .w0) ∙ z .w0;
+      w1 = length-emptied-weights (numberIn (b .numbers) 38) (b .w1) ∙ z .w1;
+    }
+
+emptied-behind : (w : HeaderWords) → Plain w → Sized w → Behind w (emptied w)
+unfolding emptied
+emptied-behind w p z =
+    record {
+      l0 = list-behind (numberIn (w .numbers) 29) (w .l0) (p .l0) (z .l0);
+      l1 = list-behind (numberIn (w .numbers) 32) (w .l1) (p .l1) (z .l1);
+      marking = list-behind (numberIn (w .numbers) 45) (w .marking) (p .marking) (z .marking);
+      w0 = weights-behind (numberIn (w .numbers) 37) (w .w0) (p .c0) (z .w0);
+      w1 = weights-behind (numberIn (w .numbers) 38) (w .w1) (p .c1) (z .w1);
+    }
+
+pub in-from-emptied : (w : HeaderWords) → plain w ≡ true → Sized w → headerIn (headerFrom w) (emptied w) ≡ w
+in-from-emptied w t z = let p = plain-says w (rw t tt) in back w p z (emptied w) (emptied-sized w z) (emptied-behind w p z)
+
 -- ---- a prefix
 
 pub prefix-from-in : (there : Bool) (p : Prefix) (b : List ℕ) → T (prefix there .good p) → length b ≡ 198 → prefixFrom (prefixShort p) (sets b 0 (listWords (p .«base_marking»))) ≡ p
 unfolding prefix prefixFrom
-prefix-from-in there p b g e = rw (operations-from-in (p .«base_marking») b (list-good _ _ (p .«base_marking») (seq-first _ _ _ (seq-rest _ _ _ (shaped-from _ _ _ _ p g)))) e)
+prefix-from-in there p b g e = rw (operations-from-in (p .«base_marking») b (operationsIf-ok _ _ (p .«base_marking») (seq-first _ _ _ (seq-rest _ _ _ (shaped-from _ _ _ _ p g)))) e)

@@ -3,18 +3,13 @@ use syntax::record::Operations;
 use syntax::record::Weight;
 use syntax::record::WeightList;
 use weights::list::at_most_32;
+use words::list_words::at_most_66;
 ghost use mathlib.Core.Path.{_≡_};
 ghost use Prim.Native.Nat.{_*_, _<_};
 ghost use lib.IntN.{pos};
 ghost use lib.ListN.{getD, drop, replicate};
 ghost use Rattle.syntax.specs.SliceHeader.{noWeight};
-ghost use Rattle.record.specs.Entries.{atMost66, operationsFrom, isSetZ, weightFrom, weightsFrom};
-
-fn at_most_66(n: u32) -> u32
-    ensures { λ r. ⌜ r ≡ atMost66 n ⌝ }
-{
-    if n <= 66 { n } else { 66 }
-}
+ghost use Rattle.record.specs.Entries.{operationsFrom, isSetZ, weightFrom, weightsFrom};
 
 pub fn operations_of(count: u32, words: &[u32; 198]) -> Operations
     ensures { λ r. ⌜ r ≡ operationsFrom count (now (words .entry)) ⌝ }

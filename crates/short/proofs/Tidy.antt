@@ -48,7 +48,7 @@ pub record InOrder (h : SliceHeader) : Type 0 where
   pub w1 : T (padded isNoWeight 32 (h .«pred_weight_table» .l1 .count) (h .«pred_weight_table» .l1 .entries))
 
 module _ (t : Table) (n : UnitKind) where
-  good-in-order : (h : SliceHeader) → T (header t n .good h) → InOrder h
+  pub good-in-order : (h : SliceHeader) → T (header t n .good h) → InOrder h
   unfolding header parts modifications predWeightTable decRefPicMarking
   good-in-order h g =
       let p = seq-rest _ _ _ (seq-rest _ _ _ (seq-rest _ _ _ (seq-rest _ _ _ (shaped-from _ _ _ _ h g)))) in

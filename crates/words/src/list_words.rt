@@ -49,7 +49,7 @@ pub fn clear_list(words: &mut [u32; 198])
 }
 
 // A count over 66 counts as 66.
-fn at_most_66(n: u32) -> u32
+pub fn at_most_66(n: u32) -> u32
     ensures { λ r. ⌜ r ≡ atMost66 n ⌝ }
 {
     if n <= 66 { n } else { 66 }
