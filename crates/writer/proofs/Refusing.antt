@@ -32,7 +32,7 @@ use Rattle.writer.specs.declared.given.KindGiven.{KindGiven}
 use Rattle.writer.specs.declared.sets.SetsFor.{SetsFor}
 use Rattle.writer.specs.declared.write.HeaderWrote.{HeaderWrote}
 use Rattle.writer.specs.Given.{withExtension, typed, kindGiven}
-use Rattle.writer.specs.Write.{HeaderOut, withSequence, withPicture, setsFor, bitsOut, afterSets, afterKind, writeHeader}
+use Rattle.writer.specs.Write.{HeaderOut, withSequence, withPicture, setsFor, bitsOut, afterSets, afterKind, writeWhere, writeHeader}
 use Rattle.writer.proofs.Passed.{Found}
 use Rattle.writer.proofs.Answers.{out-none, out-short, out-bits}
 use Rattle.writer.proofs.Units.{byte, Starts, plain, with-extension, plain-short, never-of}
@@ -115,7 +115,7 @@ module _ (t : Table) (h : SliceHeader) (out : List ℕ) where
   abbrev OutFine : HeaderOut → Type 0
   OutFine o = Fine out (o .left) (o .answer)
 
-  bits-fine : (k : UnitKind) → OutFine (bitsOut t k h out)
+  bits-fine : (k : UnitKind) → OutFine (bitsOut true t k h out)
   bits-fine k =
       let l = header t k .bits h in
       cases (header t k .good h)
@@ -126,17 +126,17 @@ module _ (t : Table) (h : SliceHeader) (out : List ℕ) where
       (λ m. rw (out-short t k h out good (leb-false (length l) (length (bitsOf out)) m)) (refl, tt)))
       (λ g. rw (out-none t k h out g) (refl, tt))
 
-  by-sets : (k : UnitKind) (f : SetsFor) → SetsFine f → OutFine (afterSets t k h out f)
+  by-sets : (k : UnitKind) (f : SetsFor) → SetsFine f → OutFine (afterSets true t k h out f)
   by-sets k (SetsFor.There p s) g = bits-fine k
   by-sets k (SetsFor.Refused r) g = (refl, among-right (2 ∷ 3 ∷ 4 ∷ 13 ∷ []) (8 ∷ 9 ∷ 10 ∷ 25 ∷ 26 ∷ []) (r .number) (among-left (8 ∷ 9 ∷ 10 ∷ []) (25 ∷ 26 ∷ []) (r .number) g))
 
-  by-kind : (f : KindGiven) → KindFine f → OutFine (afterKind t h out f)
+  by-kind : (f : KindGiven) → KindFine f → OutFine (afterKind true t h out f)
   by-kind (KindGiven.Of k) g = by-sets k (setsFor t (h .«pic_parameter_set_id»)) (sets-fine t (h .«pic_parameter_set_id»))
   by-kind (KindGiven.Refused r) g = (refl, among-left (2 ∷ 3 ∷ 4 ∷ 13 ∷ []) (8 ∷ 9 ∷ 10 ∷ 25 ∷ 26 ∷ []) (r .number) g)
 
 module _ (t : Table) (b : ℕ) (x : ExtensionGiven) (h : SliceHeader) (out : List ℕ) where
   fine : Fine out (writeHeader t b x h out .left) (writeHeader t b x h out .answer)
-  unfolding writeHeader
+  unfolding writeWhere
   fine = by-kind t h out (kindGiven b x) (kind-fine b x)
 
   pub refused-with : {r : Refusal} → writeHeader t b x h out .answer ≡ HeaderWrote.Refused r → (writeHeader t b x h out .left ≡ out) × T (among numbers (r .number))
@@ -186,12 +186,12 @@ pub record Turned (a : HeaderWrote) : Type 0 where
 
 module _ (t : Table) (b : ℕ) (x : ExtensionGiven) (h : SliceHeader) (out : List ℕ) where
   by-the-kind : {d : Refusal} → kindGiven b x ≡ KindGiven.Refused d → writeHeader t b x h out .answer ≡ HeaderWrote.Refused d
-  unfolding writeHeader
+  unfolding writeWhere
   by-the-kind q = rw q
 
   by-the-sets : {k : UnitKind} {d : Refusal} → kindGiven b x ≡ KindGiven.Of k → setsFor t (h .«pic_parameter_set_id») ≡ SetsFor.Refused d
       → writeHeader t b x h out .answer ≡ HeaderWrote.Refused d
-  unfolding writeHeader
+  unfolding writeWhere
   by-the-sets q g = rw (q, g)
 
   -- where 25 is given, no unit that starts as the writer was told reads as the record
