@@ -70,12 +70,14 @@ class Log:
         verdict, said = self.verdicts.get(path, ("", ""))
         if verdict == "no proof":
             return "`search` does not close" in said
-        file = "proofs/" + "/".join(path.split("::")[1:]) + "/Proof.antt"
-        return verdict == "not proved" and any(self.reaches(file, name, proof_of(file)) for name in self.own.get(file, ()))
+        *modules, function = path.split("::")[1:]
+        files = ["/".join(["proofs", *modules, mark + function, "Proof.antt"]) for mark in ("", "+")]  # with a plus where it calls itself
+        return verdict == "not proved" and any(self.reaches(file, name, proof_of(file)) for file in files for name in self.own.get(file, ()))
 
     def reaches(self, file, name, proof):
         """Whether a declaration is a need of the contract, the contract's own proof, or something that one of them lacks."""
-        if name.endswith("-spec") or re.search(rf"^{re.escape(name)} : .*\btie\.Need-", proof, re.M):
+        signature = re.search(rf"^{re.escape(name)} :(.*?)^{re.escape(name)} ", proof, re.M | re.S)
+        if name.endswith("-spec") or (signature and re.search(r"\b(?:tie|lts)\.Need-", signature.group(1))):
             return True
         return any(self.reaches(file, other, proof) for other, lacking in self.lacks.get(file, ()) if lacking == name)
 
@@ -132,6 +134,7 @@ PASS = [
     (ROUND, error("returns", GOAL) + CALLS),
     (ROUND, error("help", GOAL) + lacks("returns", "help") + NOT_PROVED),
     (ROUND, error("f-spec", "as printed, the two types first differ") + NOT_PROVED),
+    (ROUND, error("returns", GOAL, file="proofs/a/+f/Proof.antt") + NOT_PROVED),
     (ROUND, NO_PROOF),
     (ROUND + "# and\nold: 3\nnew: 4\n", NO_PROOF),
     (LAW, error("l", GOAL, file="proofs/A.antt")),
