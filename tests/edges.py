@@ -1,15 +1,22 @@
 #!/usr/bin/env python3
-"""What crates/edges must print, worked out from document 01 and the standard in plain Python, with no line of the library.
+"""The cases that crates/edges is given, and what it must print, worked out from document 01 and the standard in plain Python, with no line of the library.
 
-edges.py           compares with crates/edges/stdout, and exits non-zero where they differ
-edges.py --write   writes that file
-The cases are those of crates/edges/src, in its order.
+edges.py           compares with crates/edges/stdin and crates/edges/stdout, and exits non-zero where they differ
+edges.py --write   writes these files
 """
 from document01 import MVC, SVC
 from model import hold
 
 LAST = 2**64 - 1
-lines = []
+BITS, FLAG, UE, SE, PUT_BITS, PUT_FLAG, PUT_UE, PUT_SE, WIDTH, TYPE, HEADER, EXTENSION, BODY = range(13)  # what is asked, as crates/edges/src/cases.rt has it
+cases, lines = [], []
+
+
+def case(name, said, kind, at=0, n=0, v=0, given=b""):
+    """A line of the input, with the line that it must be answered by."""
+    place = "-0" if at == LAST else at  # counted back from the last place
+    cases.append(f"{name}:{kind},{place},{n},{v},{len(given)} {' '.join(str(b) for b in given)}".rstrip())
+    lines.append(f"{name}: {said}")
 
 
 def bits(data):
@@ -49,29 +56,32 @@ def se(data, at):
     return ((k + 1) // 2 if k % 2 else -(k // 2)), e
 
 
-def answer(name, a):
-    lines.append(f"{name}: {a if isinstance(a, str) else f'{a[0]} next={a[1]}'}")
+def answer(a):
+    return a if isinstance(a, str) else f"{a[0]} next={a[1]}"
 
 
-def flag(name, data, at):
+def flag(data, at):
     a = fixed(data, at, 1)
-    answer(name, a if isinstance(a, str) else (["clear", "set"][a[0]], a[1]))
+    return a if isinstance(a, str) else (["clear", "set"][a[0]], a[1])
 
 
 def reads():
     s = bytes.fromhex("a5ff00817e")
-    answer("u(0) at 0", fixed(s, 0, 0))
-    answer("u(0) at the end", fixed(s, 40, 0))
-    answer("u(0) past the end", fixed(s, 41, 0))
-    answer("u(1) at 0", fixed(s, 0, 1))
-    answer("u(31) at 3", fixed(s, 3, 31))
-    answer("u(32) at 8", fixed(s, 8, 32))
-    answer("u(32) at 9", fixed(s, 9, 32))
-    answer("u(33), which counts as 32, at 7", fixed(s, 7, 33))
-    answer("u(1) at the last place", fixed(s, LAST, 1))
-    answer("u(8) of nothing", fixed(b"", 0, 8))
+    for name, at, n, data in [
+        ("u(0) at 0", 0, 0, s),
+        ("u(0) at the end", 40, 0, s),
+        ("u(0) past the end", 41, 0, s),
+        ("u(1) at 0", 0, 1, s),
+        ("u(31) at 3", 3, 31, s),
+        ("u(32) at 8", 8, 32, s),
+        ("u(32) at 9", 9, 32, s),
+        ("u(33), which counts as 32, at 7", 7, 33, s),
+        ("u(1) at the last place", LAST, 1, s),
+        ("u(8) of nothing", 0, 8, b""),
+    ]:
+        case(name, answer(fixed(data, at, n)), BITS, at, n, given=data)
     for name, at in [("flag at 0", 0), ("flag at 1", 1), ("flag at 39", 39), ("flag at the end", 40)]:
-        flag(name, s, at)
+        case(name, answer(flag(s, at)), FLAG, at, given=s)
     for name, at, body in [
         ("ue 1", 0, "80"),
         ("ue 00100", 0, "20"),
@@ -88,7 +98,7 @@ def reads():
         ("ue at the last place", LAST, "80"),
         ("ue of nothing", 0, ""),
     ]:
-        answer(name, ue(bytes.fromhex(body), at))
+        case(name, answer(ue(bytes.fromhex(body), at)), UE, at, given=bytes.fromhex(body))
     for name, body in [
         ("se code 0", "80"),
         ("se code 1", "40"),
@@ -98,13 +108,13 @@ def reads():
         ("se of 32 zeros", "00000000"),
         ("se cut", "00"),
     ]:
-        answer(name, se(bytes.fromhex(body), 0))
+        case(name, answer(se(bytes.fromhex(body), 0)), SE, given=bytes.fromhex(body))
 
 
 # ---- writing: the next place or a refusal, and the buffer, which held FF everywhere
 
 
-def put(name, size, at, code):
+def put(size, at, code):
     """code: the bits to write, or None where the value has none."""
     old = "1" * (8 * size)
     if code is None:
@@ -118,7 +128,7 @@ def put(name, size, at, code):
             byte = -(-end // 8) * 8
             new = old[:at] + code + "0" * (byte - end) + old[byte:]
     held = " ".join(f"{int(new[i:i + 8], 2):02x}" for i in range(0, len(new), 8))
-    lines.append(f"{name}: {said} buffer {held}")
+    return f"{said} buffer {held}"
 
 
 def fixed_code(n, v):
@@ -149,10 +159,9 @@ def puts():
         ("put u(32) at 17", 17, 32, 1),
         ("put u(1) at the last place", LAST, 1, 1),
     ]:
-        put(name, 6, at, fixed_code(n, v))
-    put("put a set flag", 2, 7, "1")
-    put("put a clear flag", 2, 8, "0")
-    put("put a flag at the end", 2, 16, "1")
+        case(name, put(6, at, fixed_code(n, v)), PUT_BITS, at, n, v)
+    for name, at, v in [("put a set flag", 7, 1), ("put a clear flag", 8, 0), ("put a flag at the end", 16, 1)]:
+        case(name, put(2, at, str(v)), PUT_FLAG, at, v=v)
     for name, at, v in [
         ("put ue 0", 0, 0),
         ("put ue 3 at 6", 6, 3),
@@ -160,7 +169,7 @@ def puts():
         ("put ue 4294967295", 0, 4294967295),
         ("put ue 4294967294 at 10", 10, 4294967294),
     ]:
-        put(name, 9, at, ue_code(v))
+        case(name, put(9, at, ue_code(v)), PUT_UE, at, v=v)
     for name, at, v in [
         ("put se 0", 0, 0),
         ("put se -1 at 5", 5, -1),
@@ -168,14 +177,14 @@ def puts():
         ("put se -2147483647", 0, -2147483647),
         ("put se -2147483648", 0, -2147483648),
     ]:
-        put(name, 9, at, se_code(v))
+        case(name, put(9, at, se_code(v)), PUT_SE, at, v=v)
 
 
 def width(size, rate):
     b = 0
     while rate and 2**b * rate < size + rate:
         b += 1
-    lines.append(f"width of {size} by {rate}: {b}")
+    case(f"width of {size} by {rate}", b, WIDTH, n=size, v=rate)
 
 
 def widths():
@@ -189,14 +198,16 @@ def widths():
 
 def units():
     for id in [0, 1, 5, 14, 17, 21, 22, 31, 32, 255]:
-        lines.append(f"type {id}: {id if id < 32 else f'out of range {id}'}")
-    lines.append(f"no byte: {refused(1)}")
-    for b in [0x00, 0x65, 0x7F, 0x80, 0xFF]:
+        case(f"type {id}", id if id < 32 else f"out of range {id}", TYPE, n=id)
+    case("no byte", refused(1), HEADER)
+    for unit in ["00", "6588", "7f", "80", "ff"]:
+        b = int(unit[:2], 16)
         said = refused(2) if b & 0x80 else f"nal_ref_idc={b >> 5} nal_unit_type={b & 31}"
-        lines.append(f"first byte {b:02X}: {said}")
-    lines.append(f"extension of 3 bytes: {refused(4)}")
-    for ext in ["000000", "7fffff", "400140", "800000", "ffffff", "c19a50"]:
-        extension(bytes.fromhex(ext))
+        case(f"first byte {b:02X}", said, HEADER, given=bytes.fromhex(unit))
+    case("extension of 3 bytes", refused(4), EXTENSION, given=bytes.fromhex("6e8000"))
+    for unit in ["74000000", "747fffff", "74400140", "6e800000", "6effffff", "6ec19a5000"]:
+        unit = bytes.fromhex(unit)
+        case(f"extension {unit[1:4].hex(' ').upper()}", extension(unit[1:4]), EXTENSION, given=unit)
     for name, unit, start in [
         ("body 00 00 03 00 00 03 01", "6500000300000301", 1),
         ("body 00 00 03 00 03", "650000030003", 1),
@@ -210,7 +221,7 @@ def units():
         ("body of 12 bytes", "650102030405060708090a0b", 1),
         ("body of 13 bytes", "650102030405060708090a0b0c", 1),
     ]:
-        body(name, bytes.fromhex(unit), start)
+        case(name, body(bytes.fromhex(unit), start), BODY, start, given=bytes.fromhex(unit))
 
 
 def extension(three):
@@ -219,10 +230,10 @@ def extension(three):
     for name, n in {"0": MVC, "1": SVC}[s[0]]:
         words.append(f"{name}={int(s[at:at + n], 2)}")
         at += n
-    lines.append(f"extension {three.hex(' ').upper()}: {' '.join(words)}")
+    return " ".join(words)
 
 
-def body(name, unit, start):
+def body(unit, start):
     scratch = bytearray(b"\xee" * 12)
     if len(unit) > len(scratch):
         said = refused(26, len(unit))
@@ -236,11 +247,12 @@ def body(name, unit, start):
             zeros = zeros + 1 if b == 0 else 0
         scratch[: len(out)] = out
         said = f"bytes={len(out)}"
-    lines.append(f"{name}: {said} scratch {scratch.hex(' ')}")
+    return f"{said} scratch {scratch.hex(' ')}"
 
 
 reads()
 puts()
 widths()
 units()
+hold("edges", [str(len(cases))] + cases, "stdin")
 hold("edges", lines)

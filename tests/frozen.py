@@ -62,8 +62,8 @@ def main():
     if args.model:
         return not good
     if not pathlib.Path(port[0]).exists() and "/" in port[0]:
-        print(f"frozen: the port is SKIPPED: there is no {port[0]}; give --port or $TUZ")
-        return not good
+        print(f"frozen: skipped: the port: there is no {port[0]}; give --port or $TUZ")
+        return not good or os.environ.get("CI") == "true"
     rewrite = ["--rewrite"] if args.rewrite else []
     done = subprocess.run([*port, "cases", *rewrite, str(FROZEN / "cases.txt")], stdout=subprocess.PIPE, text=True)
     answers = BIT.sub("", done.stdout).splitlines()

@@ -1,18 +1,16 @@
-// Runs the edges of document 01 that bits, nal and escape have, and prints each answer on a line. What it prints is held to the file stdout beside src/.
+// Runs the edges of document 01 that bits, nal and escape have, and prints each answer on a line. The cases come from standard input, which tests/edges.py writes;
+// what is printed is held to the file stdout beside src/, which it works out anew.
 mod show; // answers as text
+mod numbers; // the input's numbers
 mod reads; // codes at their limits
 mod puts; // writing at its limits
 mod units; // first bytes, extensions, bodies
+mod cases; // the input: one case after another
+
+use libc::STDIN_FILENO;
 
 fn main() {
-    reads::fixed();
-    reads::codes();
-    reads::signed();
-    puts::fixed();
-    puts::codes();
-    puts::widths();
-    units::types();
-    units::headers();
-    units::extensions();
-    units::bodies();
+    let mut s = io::large_buffer();
+    io::read_full(STDIN_FILENO, &mut s);
+    cases::all(&s);
 }

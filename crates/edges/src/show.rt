@@ -43,9 +43,7 @@ pub(crate) fn refusal(r: Refusal) {
     signed(r.value);
 }
 
-pub(crate) fn read(name: &[u8], a: Read) {
-    text(name);
-    text(b": ");
+pub(crate) fn read(a: Read) {
     match a {
         Read::Got(v, c) => {
             number(v as u64);
@@ -54,12 +52,9 @@ pub(crate) fn read(name: &[u8], a: Read) {
         }
         Read::Refused(r) => refusal(r),
     }
-    text(b"\n");
 }
 
-pub(crate) fn read_signed(name: &[u8], a: ReadSigned) {
-    text(name);
-    text(b": ");
+pub(crate) fn read_signed(a: ReadSigned) {
     match a {
         ReadSigned::Got(v, c) => {
             signed(v as i64);
@@ -68,12 +63,9 @@ pub(crate) fn read_signed(name: &[u8], a: ReadSigned) {
         }
         ReadSigned::Refused(r) => refusal(r),
     }
-    text(b"\n");
 }
 
-pub(crate) fn read_flag(name: &[u8], a: ReadFlag) {
-    text(name);
-    text(b": ");
+pub(crate) fn read_flag(a: ReadFlag) {
     match a {
         ReadFlag::Got(v, c) => {
             if v {
@@ -86,13 +78,10 @@ pub(crate) fn read_flag(name: &[u8], a: ReadFlag) {
         }
         ReadFlag::Refused(r) => refusal(r),
     }
-    text(b"\n");
 }
 
 // A write's answer, and the buffer after it.
-pub(crate) fn wrote(name: &[u8], a: Wrote, d: &[u8]) {
-    text(name);
-    text(b": ");
+pub(crate) fn wrote(a: Wrote, d: &[u8]) {
     match a {
         Wrote::At(c) => {
             text(b"next=");
@@ -102,5 +91,4 @@ pub(crate) fn wrote(name: &[u8], a: Wrote, d: &[u8]) {
     }
     text(b" buffer");
     bytes(d);
-    text(b"\n");
 }

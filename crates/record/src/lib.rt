@@ -1,0 +1,1 @@
+// The record that lent words hold, taken out of them.
