@@ -1,5 +1,5 @@
 #!/usr/bin/env python3
-"""Document 01's reading of units and recordings in plain Python, with no line of the library and none of the Rust.
+"""The rules' reading of units and recordings in plain Python, with no line of the library and none of the Rust.
 
 document01.py cases FILE               an answer line for each case line
 document01.py list [--table FILE] CLIP a listing; FILE holds sps: and pps: words, else the sample sets serve

@@ -1,5 +1,5 @@
 #!/usr/bin/env python3
-"""The cases that crates/edges is given, and what it must print, worked out from document 01 and the standard in plain Python, with no line of the library.
+"""The cases that crates/edges is given, and what it must print, worked out from the rules and the standard in plain Python, with no line of the library.
 
 edges.py           compares with crates/edges/stdin and crates/edges/stdout, and exits non-zero where they differ
 edges.py --write   writes these files

@@ -6,8 +6,8 @@
 COMMAND answers `COMMAND cases FILE`; else $TUZ does, else ./tuz. The model in document01.py is held to them too; --model: it alone.
 With --rewrite the port also writes each slice header that it has read, and stops where its bits do not come back.
 
-A line of answers.txt is the Rust's answer, as tests/oracle prints it. Where the Rust departs from document 01 in a known way
-(docs/DIFFERENCES.md), what document 01 wants stands behind ` | doc: `, or, where the Rust stops at a forbidden pattern, the Rust's answer
+A line of answers.txt is the Rust's answer, as tests/oracle prints it. Where the Rust departs from the rules in a known way
+(docs/DIFFERENCES.md), what the rules want stands behind ` | doc: `, or, where the Rust stops at a forbidden pattern, the Rust's answer
 to the same body, escaped, behind ` | escaped: `.
 """
 import argparse
@@ -62,8 +62,8 @@ def main():
     if args.model:
         return not good
     if not pathlib.Path(port[0]).exists() and "/" in port[0]:
-        print(f"frozen: the port is SKIPPED: there is no {port[0]}; give --port or $TUZ")
-        return not good
+        print(f"frozen: skipped: the port: there is no {port[0]}; give --port or $TUZ")
+        return not good or os.environ.get("CI") == "true"
     rewrite = ["--rewrite"] if args.rewrite else []
     done = subprocess.run([*port, "cases", *rewrite, str(FROZEN / "cases.txt")], stdout=subprocess.PIPE, text=True)
     answers = BIT.sub("", done.stdout).splitlines()

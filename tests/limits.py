@@ -1,5 +1,5 @@
 #!/usr/bin/env python3
-"""What crates/limits must print, worked out from document 01's sizes in plain Python, with no line of the library.
+"""What crates/limits must print, worked out from the rules' sizes in plain Python, with no line of the library.
 
 limits.py           compares with crates/limits/stdout, and exits non-zero where they differ
 limits.py --write   writes that file
@@ -9,7 +9,7 @@ from model import hold
 
 lines = []
 
-# The ranges of document 01, 'Sizes'.
+# The ranges of docs/RULES.md, 'Sizes'.
 
 SEQUENCE = {
     "chroma format": (0, 3),

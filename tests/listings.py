@@ -1,7 +1,7 @@
 #!/usr/bin/env python3
 """Runs the program `listing` on torn recordings and compares what it prints with the output kept in tests/listings.
 
-listings.py           holds what the program prints on each recording to NAME.txt (NAME.txt.gz where it is long), and that to document 01's model in Python; then
+listings.py           holds what the program prints on each recording to NAME.txt (NAME.txt.gz where it is long), and that to the rules' model in Python; then
                       a slow pipe, and a read and a write that fail
 listings.py --write   writes the files, by the model: look at what changed
 NAME.hex is the recording; those over 4,096 bytes are made here each time, from a seed.
@@ -31,7 +31,7 @@ TABLE = document01.table_of(document01.SAMPLE.split())
 
 
 def listing(s):
-    """What document 01 says is printed."""
+    """What the rules say is printed."""
     if len(s) > MOST:
         return "end too long\n"
     return "".join(line + "\n" for line in document01.listing(TABLE, s))

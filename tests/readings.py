@@ -1,5 +1,5 @@
 #!/usr/bin/env python3
-"""The units that crates/readings reads, made here bit by bit from document 01's syntax, and what it must print of them, with no line of the library.
+"""The units that crates/readings reads, made here bit by bit from the rules' syntax, and what it must print of them, with no line of the library.
 
 readings.py           compares with crates/readings/stdout and the units in crates/readings/src/cases.rt, and exits non-zero where they differ
 readings.py --write   writes stdout

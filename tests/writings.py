@@ -1,5 +1,5 @@
 #!/usr/bin/env python3
-"""The records that crates/writings writes, and what it must print: each record written bit by bit as document 01 has the header, with no line of the library, and
+"""The records that crates/writings writes, and what it must print: each record written bit by bit as the rules have the header, with no line of the library, and
 the unit that it makes read by the model in document01.py.
 
 writings.py           compares with crates/writings/stdin and crates/writings/stdout, and exits non-zero where they differ
@@ -113,7 +113,7 @@ class Writer:
 
 
 def header_bits(r, pic, seq, ref_idc, idr, mvc):
-    """The bits of a record by its sets, in document 01's order."""
+    """The bits of a record by its sets, in the rules' order."""
     w = Writer(r)
     w.ue("first_mb_in_slice")
     family = w.ue("slice_type", 9) % 5
@@ -167,7 +167,7 @@ def header_bits(r, pic, seq, ref_idc, idr, mvc):
 
 
 def header(first, extension, r, room):
-    """What the writer writes, in document 01's order of refusals."""
+    """What the writer writes, in the rules' order of refusals."""
     if first & 0x80:
         raise Refused(2, 0)
     kind = first & 31

@@ -1,6 +1,6 @@
 """Two programs' answers to the same cases, line by line, and what is known of where they part.
 
-A departure of the Rust from document 01 has a class, and each class an entry of its name in docs/DIFFERENCES.md.
+A departure of the Rust from the rules has a class, and each class an entry of its name in docs/DIFFERENCES.md.
 Everything else that differs is a fault of one side.
 """
 import collections
@@ -21,7 +21,7 @@ Case = collections.namedtuple("Case", "line said rust wanted group")
 
 
 def group_of(rust):
-    """The class of the Rust's answer line, and what document 01 wants there (None: the Rust has no answer)."""
+    """The class of the Rust's answer line, and what the rules want there (None: the Rust has no answer)."""
     answer, _, document = rust.partition(" | doc: ")
     if answer.startswith("ioerror InvalidData"):
         return "forbidden pattern", document or None

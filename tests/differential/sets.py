@@ -68,7 +68,7 @@ PICTURE_BEYOND = {
 
 
 def out_of_range(r, held):
-    """The set with one field beyond document 01's sizes."""
+    """The set with one field beyond the rules' sizes."""
     beyond = SEQUENCE_BEYOND if isinstance(held, Sequence) else PICTURE_BEYOND
     field = r.choice(sorted(beyond))
     held = held._replace(**{field: r.choice(beyond[field])})

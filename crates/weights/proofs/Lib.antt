@@ -2,3 +2,4 @@ pub mod Ends
 pub mod Filled
 pub mod Joined
 pub mod Tables
+pub mod Unique

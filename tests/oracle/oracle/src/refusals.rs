@@ -1,4 +1,4 @@
-//! The Rust's errors as document 01's refusals.
+//! The Rust's errors as the rules' refusals.
 use h264_reader::nal::pps::PicParamSetIdError;
 use h264_reader::nal::slice::SliceHeaderError;
 use h264_reader::rbsp::BitReaderError;

@@ -59,7 +59,7 @@ pub fn shadow_prefix<R: BitRead>(t: &mut Tracer<R>) -> Result<(), BitReaderError
     Ok(())
 }
 
-/// What document 01 answers where the Rust's own answer cannot be it.
+/// What the rules answer where the Rust's own answer cannot be it.
 pub fn doc_column<R: BitRead>(
     answer: &str,
     t: &Tracer<R>,
@@ -100,7 +100,7 @@ pub fn all_bytes(mut r: impl Read) -> Option<Vec<u8>> {
 
 pub fn unit_line(ctx: &Context, unit: &[u8], trace: bool) -> String {
     if unit.is_empty() {
-        // RefNal::new panics here; document 01 has 1.
+        // RefNal::new panics here; the rules have 1.
         return refused(1, 0);
     }
     let nal = RefNal::new(unit, &[], true);

@@ -1,6 +1,6 @@
 //! The width of slice_group_change_cycle by itself.
 
-/// The Rust's f64 expression, as it stands in slice/mod.rs, against document 01's integer width,
+/// The Rust's f64 expression, as it stands in slice/mod.rs, against the rules' integer width,
 /// for each rate at every size where the width changes.
 pub fn width_check(max: u32) {
     let (mut n, mut bad) = (0u64, 0u64);
