@@ -31,13 +31,15 @@ need() {
     fi
   fi
   echo "installing Debian packages:$missing" >&2
-  local options="-qq -o Acquire::Retries=2 -o Acquire::http::Timeout=30 -o DPkg::Lock::Timeout=300"
+  local options="-qq -o Acquire::Retries=2 -o Acquire::http::Timeout=30 -o DPkg::Lock::Timeout=300" log
+  log=$(mktemp "${TMPDIR:-/tmp}/tuz-packages.XXXXXX")
   # lists that are there already may do
   # shellcheck disable=SC2086
-  $by apt-get $options update >&2 || true
+  $by apt-get $options update >>"$log" 2>&1 || true
   # shellcheck disable=SC2086
-  if ! $by env DEBIAN_FRONTEND=noninteractive apt-get $options install -y --no-install-recommends $missing >&2; then
-    why="$why; apt-get could not install them"
+  if ! $by env DEBIAN_FRONTEND=noninteractive apt-get $options install -y --no-install-recommends $missing >>"$log" 2>&1; then
+    why="$why; apt-get could not install them: what it said is in $log"
     return 1
   fi
+  rm -f "$log"
 }

@@ -3,7 +3,7 @@
 use std::fs;
 use std::path::Path;
 
-use tuzmarghil::{Picture, Sequence, Table, LIMIT};
+use tuzmarghil::{Table, LIMIT};
 
 use crate::random::Random;
 
@@ -44,41 +44,7 @@ fn split(bytes: &[u8]) -> Vec<(usize, usize)> {
 fn table(words: &str) -> Table {
     let mut table = Table::new();
     for word in words.split_whitespace() {
-        let (kind, numbers) = word.split_at(4);
-        let n: Vec<i32> = numbers.split(':').map(|w| w.parse().unwrap()).collect();
-        let (u, flag) = (|i: usize| n[i] as u32, |i: usize| n[i] == 1);
-        match kind {
-            "sps:" => {
-                let mut set = Sequence::default();
-                set.chroma_format_idc = u(1);
-                set.separate_colour_plane_flag = flag(2);
-                set.bit_depth_luma_minus8 = u(3);
-                set.log2_max_frame_num = u(4);
-                set.pic_order_cnt_type = u(5);
-                set.log2_max_pic_order_cnt_lsb_minus4 = u(6);
-                set.delta_pic_order_always_zero_flag = flag(7);
-                set.frame_mbs_only_flag = flag(8);
-                set.pic_size_in_map_units = u(9);
-                table.put_sequence(u(0), set)
-            }
-            _ => {
-                let mut set = Picture::default();
-                set.seq_parameter_set_id = u(1);
-                set.entropy_coding_mode_flag = flag(2);
-                set.bottom_field_pic_order_in_frame_present_flag = flag(3);
-                set.num_ref_idx_l0_default_active_minus1 = u(4);
-                set.num_ref_idx_l1_default_active_minus1 = u(5);
-                set.weighted_pred_flag = flag(6);
-                set.weighted_bipred_idc = u(7);
-                set.pic_init_qp_minus26 = n[8];
-                set.pic_init_qs_minus26 = n[9];
-                set.deblocking_filter_control_present_flag = flag(10);
-                set.redundant_pic_cnt_present_flag = flag(11);
-                set.slice_group_change_rate = u(12);
-                table.put_picture(u(0), set)
-            }
-        }
-        .expect("a set that the table holds");
+        table.put_word(word).expect("a set that the table holds");
     }
     table
 }

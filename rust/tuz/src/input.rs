@@ -237,7 +237,7 @@ fn table_of(path: &Path) -> Result<Table> {
     let mut filled = words::Filled::default();
     for word in lines.flat_map(str::split_whitespace) {
         let told = || format!("{name}: {}", shown::word(word));
-        filled.put(word).with_context(told)?.with_context(told)?;
+        filled.put(word).with_context(told)?;
     }
     for told in filled.doubts() {
         eprintln!("tuz: {name}: {told}");

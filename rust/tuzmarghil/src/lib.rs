@@ -47,6 +47,7 @@ mod serial;
 mod slice;
 mod stream;
 mod table;
+mod text;
 mod unit;
 mod unparse;
 mod walk;
@@ -66,6 +67,7 @@ pub use slice::{
 };
 pub use stream::{Stream, StreamReport};
 pub use table::{Picture, Sequence, Table};
+pub use text::{SetId, WordError};
 pub use unit::{read_unit, Reading, Slice, Unit, UnitReader};
 pub use walk::{reports, Report, Reports};
 pub use write::write_header;

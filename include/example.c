@@ -1,0 +1,77 @@
+/* example CLIP: the units of a recording by the sample sets, as `tuz list CLIP --sample -q` prints them.
+ *
+ *     cc -Iinclude include/example.c target/staticlib/libexports.a -o example
+ */
+#include "tuzmarghil.h"
+
+#include <inttypes.h>
+#include <stdio.h>
+#include <stdlib.h>
+
+/* What a reading is lent; it is used again for every unit. */
+static uint32_t numbers[TUZ_NUMBERS], l0[198], l1[198], marking[198], base[198];
+static int32_t signed_numbers[TUZ_SIGNED], w0[256], w1[256];
+static tuz_Table table;
+
+static void put_sample(void) {
+  tuz_Sequence sequence = {.chroma_format_idc = 1, .log2_max_frame_num = 4, .pic_order_cnt_type = 2, .frame_mbs_only_flag = true, .pic_size_in_map_units = 99};
+  tuz_Picture picture = {0};
+  if (tuz_put_sequence(&table, 0, sequence).number || tuz_put_picture(&table, 0, picture).number)
+    abort();
+}
+
+static int64_t final_qp(void) {
+  tuz_PictureOut set;
+  tuz_picture_at(&set, &table, numbers[TUZ_PIC_PARAMETER_SET_ID]);
+  return 26 + (int64_t)set.picture.pic_init_qp_minus26 + signed_numbers[TUZ_SLICE_QP_DELTA];
+}
+
+static void tell(const tuz_WalkOut *step, const uint8_t *unit) {
+  printf("unit place=%zu length=%zu ", step->place, step->length);
+  switch (step->read.answer) {
+  case 0:
+    printf("other type=%" PRIu32 "\n", step->read.number);
+    break;
+  case 1:
+    printf("slice type=%" PRIu32 " frame=%" PRIu32 " qp=%" PRId64 "\n", numbers[TUZ_SLICE_TYPE], numbers[TUZ_FRAME_NUM], final_qp());
+    break;
+  case 2:
+    printf("prefix ext=%s\n", unit[1] & 0x80 ? "svc" : "mvc");
+    break;
+  default:
+    printf("refused %" PRIu32 " value=%" PRId64 "\n", step->read.number, step->read.value);
+  }
+}
+
+/* The whole file; nothing where it cannot be read. */
+static uint8_t *bytes_of(const char *path, size_t *length) {
+  FILE *from = fopen(path, "rb");
+  if (!from || fseek(from, 0, SEEK_END))
+    return NULL;
+  *length = (size_t)ftell(from);
+  rewind(from);
+  uint8_t *bytes = malloc(*length + 1);
+  if (bytes && fread(bytes, 1, *length, from) != *length)
+    bytes = NULL;
+  fclose(from);
+  return bytes;
+}
+
+int main(int count, char **words) {
+  size_t length = 0, units = 0, refused = 0;
+  uint8_t *recording = count == 2 ? bytes_of(words[1], &length) : NULL;
+  uint8_t *scratch = malloc(length + 1);
+  if (!recording || !scratch)
+    return 2;
+  put_sample();
+  tuz_WalkOut step = {0};
+  for (;; units++) {
+    tuz_walk(&step, table.sequences, table.pictures, recording, length, step.next, scratch, length, numbers, signed_numbers, l0, l1, marking, w0, w1, base);
+    if (step.step != 1)
+      break;
+    refused += step.read.answer == 3;
+    tell(&step, recording + step.place);
+  }
+  printf("end units=%zu refused=%zu\n", units, refused);
+  return step.step == 2 ? 2 : 0;
+}

@@ -1,0 +1,380 @@
+/* tuzmarghil.h: H.264 slice headers, read and written by a proved library. Written by tools/header.py; do not edit.
+ *
+ * Link target/staticlib/libexports.a (`tools/archive` makes it), for x86-64 or aarch64 Linux. No function allocates, keeps anything or requires anything of what it is
+ * lent, but that pointers are those of live memory of the length that is told, and that what is written to does not overlap. A slice is a pointer and a length.
+ * A result of over 16 bytes goes where the first argument points, on every machine.
+ */
+#ifndef TUZMARGHIL_H
+#define TUZMARGHIL_H
+
+#include <stdbool.h>
+#include <stddef.h>
+#include <stdint.h>
+
+#ifdef __cplusplus
+extern "C" {
+#endif
+
+/* The number of this layout: that of the Rust crate (tuzmarghil::LAYOUT), and of the archive made from the same sources. */
+#define TUZ_LAYOUT 1
+
+typedef struct {
+  uint32_t sequences[224];
+  uint32_t pictures[2048];
+} tuz_Table;
+
+/* What a sequence parameter set says (7.3.2.1.1). */
+typedef struct {
+  uint32_t chroma_format_idc;
+  bool separate_colour_plane_flag;
+  uint32_t bit_depth_luma_minus8;
+  uint32_t log2_max_frame_num;
+  uint32_t pic_order_cnt_type;
+  uint32_t log2_max_pic_order_cnt_lsb_minus4;
+  bool delta_pic_order_always_zero_flag;
+  bool frame_mbs_only_flag;
+  uint32_t pic_size_in_map_units;
+} tuz_Sequence;
+
+/* A sequence set, or none: then `there` is false and every field zero. */
+typedef struct {
+  bool there;
+  tuz_Sequence sequence;
+} tuz_SequenceOut;
+
+/* What a picture parameter set says (7.3.2.2). A change rate of 0 is an absent one. */
+typedef struct {
+  uint32_t seq_parameter_set_id;
+  bool entropy_coding_mode_flag;
+  bool bottom_field_pic_order_in_frame_present_flag;
+  uint32_t num_ref_idx_l0_default_active_minus1;
+  uint32_t num_ref_idx_l1_default_active_minus1;
+  bool weighted_pred_flag;
+  uint32_t weighted_bipred_idc;
+  int32_t pic_init_qp_minus26;
+  int32_t pic_init_qs_minus26;
+  bool deblocking_filter_control_present_flag;
+  bool redundant_pic_cnt_present_flag;
+  uint32_t slice_group_change_rate;
+} tuz_Picture;
+
+/* A picture set, or none: then `there` is false and every field zero. */
+typedef struct {
+  bool there;
+  tuz_Picture picture;
+} tuz_PictureOut;
+
+/* What a change of the table answers: document 01's refusal number and its value, or 0 and 0 where it was done. */
+typedef struct {
+  uint32_t number;
+  int64_t value;
+} tuz_ChangedOut;
+
+typedef struct {
+  bool there;
+  bool value;
+} tuz_MarkedFlag;
+
+/* prefix_nal_unit_svc( ) without its list, of which it has the count. */
+typedef struct {
+  tuz_MarkedFlag store_ref_base_pic_flag;
+  uint32_t base_markings;
+  tuz_MarkedFlag additional_prefix_nal_unit_extension_flag;
+} tuz_PrefixShort;
+
+/* What reading a unit answers. What the answer does not speak of is zero. */
+typedef struct {
+  /* 0: a unit of another type; 1: a slice; 2: a prefix unit; 3: refused */
+  uint32_t answer;
+  /* the type of another unit, or the refusal's number */
+  uint32_t number;
+  /* the refusal's value */
+  int64_t value;
+  /* the slice header's length in bits */
+  size_t bits;
+  /* its list stands in words that the caller lends, as a slice's header does */
+  tuz_PrefixShort prefix;
+} tuz_ReadOut;
+
+/* A step of the walk. What it does not speak of is zero. */
+typedef struct {
+  /* 0: the end; 1: a unit; 2: refused */
+  uint32_t step;
+  /* the refusal's number and value */
+  uint32_t number;
+  int64_t value;
+  /* where the unit begins, after its start code, how many bytes it has, and where to go on */
+  size_t place;
+  size_t length;
+  size_t next;
+  /* what reading the unit answers */
+  tuz_ReadOut read;
+} tuz_WalkOut;
+
+/* The three extension bytes; where they are not there, they are unused. Types 1 and 5 make no use of them. */
+typedef struct {
+  bool there;
+  uint8_t b1;
+  uint8_t b2;
+  uint8_t b3;
+} tuz_ExtensionGiven;
+
+/* A field that may be absent: a mark, and zero where it is not there. */
+typedef struct {
+  bool there;
+  uint32_t value;
+} tuz_MarkedNumber;
+
+/* Where and how the picture is. */
+typedef struct {
+  tuz_MarkedNumber colour_plane_id;
+  uint32_t frame_num;
+  tuz_MarkedFlag field_pic_flag;
+  tuz_MarkedFlag bottom_field_flag;
+  tuz_MarkedNumber idr_pic_id;
+} tuz_Frame;
+
+typedef struct {
+  bool there;
+  int32_t value;
+} tuz_MarkedSigned;
+
+/* delta_pic_order_cnt[0] and [1]: there where the order count type is 1, both zero where the sequence set says so. */
+typedef struct {
+  bool there;
+  int32_t first;
+  int32_t second;
+} tuz_Deltas;
+
+typedef struct {
+  tuz_MarkedNumber pic_order_cnt_lsb;
+  tuz_MarkedSigned delta_pic_order_cnt_bottom;
+  tuz_Deltas delta_pic_order_cnt;
+  tuz_MarkedNumber redundant_pic_cnt;
+} tuz_OrderCount;
+
+typedef struct {
+  tuz_MarkedFlag direct_spatial_mv_pred_flag;
+  tuz_MarkedFlag num_ref_idx_active_override_flag;
+  tuz_MarkedNumber num_ref_idx_l0_active_minus1;
+  tuz_MarkedNumber num_ref_idx_l1_active_minus1;
+} tuz_ActiveCounts;
+
+/* Codes with up to two operands each, `count` of them, the closing code left out; unused entries are zero. */
+typedef struct {
+  uint32_t count;
+  uint32_t codes[66];
+  uint32_t first[66];
+  uint32_t second[66];
+} tuz_Operations;
+
+/* ref_pic_list_modification( ): a flag for each list, kept, since a flagged list may be empty. */
+typedef struct {
+  tuz_MarkedFlag flag;
+  tuz_Operations operations;
+} tuz_Modification;
+
+typedef struct {
+  tuz_Modification l0;
+  tuz_Modification l1;
+} tuz_Modifications;
+
+/* An entry of pred_weight_table( ). */
+typedef struct {
+  bool luma_weight_flag;
+  int32_t luma_weight;
+  int32_t luma_offset;
+  bool chroma_weight_flag;
+  int32_t cb_weight;
+  int32_t cb_offset;
+  int32_t cr_weight;
+  int32_t cr_offset;
+} tuz_Weight;
+
+/* One entry for each active reference, `count` of them; unused entries are zero. */
+typedef struct {
+  uint32_t count;
+  tuz_Weight entries[32];
+} tuz_WeightList;
+
+typedef struct {
+  bool there;
+  uint32_t luma_log2_weight_denom;
+  tuz_MarkedNumber chroma_log2_weight_denom;
+  tuz_WeightList l0;
+  tuz_WeightList l1;
+} tuz_PredWeightTable;
+
+/* dec_ref_pic_marking( ) */
+typedef struct {
+  tuz_MarkedFlag no_output_of_prior_pics_flag;
+  tuz_MarkedFlag long_term_reference_flag;
+  tuz_MarkedFlag adaptive_ref_pic_marking_mode_flag;
+  tuz_Operations operations;
+} tuz_DecRefPicMarking;
+
+typedef struct {
+  tuz_MarkedNumber cabac_init_idc;
+  int32_t slice_qp_delta;
+  tuz_MarkedFlag sp_for_switch_flag;
+  tuz_MarkedSigned slice_qs_delta;
+} tuz_Quantiser;
+
+typedef struct {
+  tuz_MarkedNumber disable_deblocking_filter_idc;
+  tuz_MarkedSigned slice_alpha_c0_offset_div2;
+  tuz_MarkedSigned slice_beta_offset_div2;
+  tuz_MarkedNumber slice_group_change_cycle;
+} tuz_Filter;
+
+typedef struct {
+  uint32_t first_mb_in_slice;
+  uint32_t slice_type;
+  uint32_t pic_parameter_set_id;
+  uint32_t seq_parameter_set_id;
+  tuz_Frame frame;
+  tuz_OrderCount order_count;
+  tuz_ActiveCounts active_counts;
+  tuz_Modifications modifications;
+  tuz_PredWeightTable pred_weight_table;
+  tuz_DecRefPicMarking dec_ref_pic_marking;
+  tuz_Quantiser quantiser;
+  tuz_Filter filter;
+} tuz_SliceHeader;
+
+/* What writing a header answers: its length in bits, or document 01's refusal. What the answer does not speak of is zero. */
+typedef struct {
+  uint32_t number;
+  int64_t value;
+  size_t bits;
+} tuz_WroteOut;
+
+#ifndef __cplusplus
+_Static_assert(sizeof(tuz_Table) == 9088, "tuz_Table");
+_Static_assert(sizeof(tuz_Sequence) == 32, "tuz_Sequence");
+_Static_assert(sizeof(tuz_SequenceOut) == 36, "tuz_SequenceOut");
+_Static_assert(sizeof(tuz_Picture) == 40, "tuz_Picture");
+_Static_assert(sizeof(tuz_PictureOut) == 44, "tuz_PictureOut");
+_Static_assert(sizeof(tuz_ChangedOut) == 16, "tuz_ChangedOut");
+_Static_assert(sizeof(tuz_MarkedFlag) == 2, "tuz_MarkedFlag");
+_Static_assert(sizeof(tuz_PrefixShort) == 12, "tuz_PrefixShort");
+_Static_assert(sizeof(tuz_ReadOut) == 40, "tuz_ReadOut");
+_Static_assert(sizeof(tuz_WalkOut) == 80, "tuz_WalkOut");
+_Static_assert(sizeof(tuz_ExtensionGiven) == 4, "tuz_ExtensionGiven");
+_Static_assert(sizeof(tuz_MarkedNumber) == 8, "tuz_MarkedNumber");
+_Static_assert(sizeof(tuz_Frame) == 24, "tuz_Frame");
+_Static_assert(sizeof(tuz_MarkedSigned) == 8, "tuz_MarkedSigned");
+_Static_assert(sizeof(tuz_Deltas) == 12, "tuz_Deltas");
+_Static_assert(sizeof(tuz_OrderCount) == 36, "tuz_OrderCount");
+_Static_assert(sizeof(tuz_ActiveCounts) == 20, "tuz_ActiveCounts");
+_Static_assert(sizeof(tuz_Operations) == 796, "tuz_Operations");
+_Static_assert(sizeof(tuz_Modification) == 800, "tuz_Modification");
+_Static_assert(sizeof(tuz_Modifications) == 1600, "tuz_Modifications");
+_Static_assert(sizeof(tuz_Weight) == 32, "tuz_Weight");
+_Static_assert(sizeof(tuz_WeightList) == 1028, "tuz_WeightList");
+_Static_assert(sizeof(tuz_PredWeightTable) == 2072, "tuz_PredWeightTable");
+_Static_assert(sizeof(tuz_DecRefPicMarking) == 804, "tuz_DecRefPicMarking");
+_Static_assert(sizeof(tuz_Quantiser) == 24, "tuz_Quantiser");
+_Static_assert(sizeof(tuz_Filter) == 32, "tuz_Filter");
+_Static_assert(sizeof(tuz_SliceHeader) == 4628, "tuz_SliceHeader");
+_Static_assert(sizeof(tuz_WroteOut) == 24, "tuz_WroteOut");
+#endif
+
+/* Where a slice header's fields stand in the lent words: a mark (THERE) and a value for what may be absent, flags as 0 and 1, of each list the count. */
+enum tuz_numbers {
+  TUZ_FIRST_MB_IN_SLICE = 0,
+  TUZ_SLICE_TYPE = 1,
+  TUZ_PIC_PARAMETER_SET_ID = 2,
+  TUZ_SEQ_PARAMETER_SET_ID = 3,
+  TUZ_COLOUR_PLANE_ID_THERE = 4,
+  TUZ_COLOUR_PLANE_ID = 5,
+  TUZ_FRAME_NUM = 6,
+  TUZ_FIELD_PIC_FLAG_THERE = 7,
+  TUZ_FIELD_PIC_FLAG = 8,
+  TUZ_BOTTOM_FIELD_FLAG_THERE = 9,
+  TUZ_BOTTOM_FIELD_FLAG = 10,
+  TUZ_IDR_PIC_ID_THERE = 11,
+  TUZ_IDR_PIC_ID = 12,
+  TUZ_PIC_ORDER_CNT_LSB_THERE = 13,
+  TUZ_PIC_ORDER_CNT_LSB = 14,
+  TUZ_DELTA_PIC_ORDER_CNT_BOTTOM_THERE = 15,
+  TUZ_DELTA_PIC_ORDER_CNT_THERE = 16,
+  TUZ_REDUNDANT_PIC_CNT_THERE = 17,
+  TUZ_REDUNDANT_PIC_CNT = 18,
+  TUZ_DIRECT_SPATIAL_MV_PRED_FLAG_THERE = 19,
+  TUZ_DIRECT_SPATIAL_MV_PRED_FLAG = 20,
+  TUZ_NUM_REF_IDX_ACTIVE_OVERRIDE_FLAG_THERE = 21,
+  TUZ_NUM_REF_IDX_ACTIVE_OVERRIDE_FLAG = 22,
+  TUZ_NUM_REF_IDX_L0_ACTIVE_MINUS1_THERE = 23,
+  TUZ_NUM_REF_IDX_L0_ACTIVE_MINUS1 = 24,
+  TUZ_NUM_REF_IDX_L1_ACTIVE_MINUS1_THERE = 25,
+  TUZ_NUM_REF_IDX_L1_ACTIVE_MINUS1 = 26,
+  TUZ_REF_PIC_LIST_MODIFICATION_FLAG_L0_THERE = 27,
+  TUZ_REF_PIC_LIST_MODIFICATION_FLAG_L0 = 28,
+  TUZ_MODIFICATIONS_L0 = 29,
+  TUZ_REF_PIC_LIST_MODIFICATION_FLAG_L1_THERE = 30,
+  TUZ_REF_PIC_LIST_MODIFICATION_FLAG_L1 = 31,
+  TUZ_MODIFICATIONS_L1 = 32,
+  TUZ_WEIGHTS_THERE = 33,
+  TUZ_LUMA_LOG2_WEIGHT_DENOM = 34,
+  TUZ_CHROMA_LOG2_WEIGHT_DENOM_THERE = 35,
+  TUZ_CHROMA_LOG2_WEIGHT_DENOM = 36,
+  TUZ_WEIGHTS_L0 = 37,
+  TUZ_WEIGHTS_L1 = 38,
+  TUZ_NO_OUTPUT_OF_PRIOR_PICS_FLAG_THERE = 39,
+  TUZ_NO_OUTPUT_OF_PRIOR_PICS_FLAG = 40,
+  TUZ_LONG_TERM_REFERENCE_FLAG_THERE = 41,
+  TUZ_LONG_TERM_REFERENCE_FLAG = 42,
+  TUZ_ADAPTIVE_REF_PIC_MARKING_MODE_FLAG_THERE = 43,
+  TUZ_ADAPTIVE_REF_PIC_MARKING_MODE_FLAG = 44,
+  TUZ_MARKINGS = 45,
+  TUZ_CABAC_INIT_IDC_THERE = 46,
+  TUZ_CABAC_INIT_IDC = 47,
+  TUZ_SP_FOR_SWITCH_FLAG_THERE = 48,
+  TUZ_SP_FOR_SWITCH_FLAG = 49,
+  TUZ_SLICE_QS_DELTA_THERE = 50,
+  TUZ_DISABLE_DEBLOCKING_FILTER_IDC_THERE = 51,
+  TUZ_DISABLE_DEBLOCKING_FILTER_IDC = 52,
+  TUZ_SLICE_ALPHA_C0_OFFSET_DIV2_THERE = 53,
+  TUZ_SLICE_BETA_OFFSET_DIV2_THERE = 54,
+  TUZ_SLICE_GROUP_CHANGE_CYCLE_THERE = 55,
+  TUZ_SLICE_GROUP_CHANGE_CYCLE = 56,
+  TUZ_NUMBERS = 57
+};
+enum tuz_signed {
+  TUZ_DELTA_PIC_ORDER_CNT_BOTTOM = 0,
+  TUZ_DELTA_PIC_ORDER_CNT_FIRST = 1,
+  TUZ_DELTA_PIC_ORDER_CNT_SECOND = 2,
+  TUZ_SLICE_QP_DELTA = 3,
+  TUZ_SLICE_QS_DELTA = 4,
+  TUZ_SLICE_ALPHA_C0_OFFSET_DIV2 = 5,
+  TUZ_SLICE_BETA_OFFSET_DIV2 = 6,
+  TUZ_SIGNED = 7
+};
+
+/* The sequence set with an id, out of a lent table. */
+void tuz_sequence_at(tuz_SequenceOut *result, const tuz_Table *t, uint32_t id);
+
+/* The picture set with an id, out of a lent table. */
+void tuz_picture_at(tuz_PictureOut *result, const tuz_Table *t, uint32_t id);
+
+/* Puts a sequence set at an id of a lent table. */
+tuz_ChangedOut tuz_put_sequence(tuz_Table *t, uint32_t id, tuz_Sequence s);
+
+/* Puts a picture set at an id of a lent table. */
+tuz_ChangedOut tuz_put_picture(tuz_Table *t, uint32_t id, tuz_Picture p);
+
+/* A unit read by the sets in a table's two arrays. Scratch needs as many bytes as the unit has. A slice's header goes to `numbers` and `signed` (fields) and to l0, l1, marking, w0 and w1 (lists), a prefix unit's list to `base`; all other words stay as they were. Beside a refusal all words are zeros. */
+void tuz_read_unit(tuz_ReadOut *result, const uint32_t sequences[224], const uint32_t pictures[2048], const uint8_t *unit, size_t unit_len, uint8_t *scratch, size_t scratch_len, uint32_t numbers[57], int32_t signed_numbers[7], uint32_t l0[198], uint32_t l1[198], uint32_t marking[198], int32_t w0[256], int32_t w1[256], uint32_t base[198]);
+
+/* One step of the walk from a place on, by the sets in a table's two arrays. Scratch needs as many bytes as the longest unit has. Words are written as by `tuz_read_unit`; where there is no unit, none is. */
+void tuz_walk(tuz_WalkOut *result, const uint32_t sequences[224], const uint32_t pictures[2048], const uint8_t *recording, size_t recording_len, size_t from, uint8_t *scratch, size_t scratch_len, uint32_t numbers[57], int32_t signed_numbers[7], uint32_t l0[198], uint32_t l1[198], uint32_t marking[198], int32_t w0[256], int32_t w1[256], uint32_t base[198]);
+
+/* A header written by the sets in a table's two arrays, for the unit that the first byte and the extension tell of. A refusal leaves the buffer as it was. */
+void tuz_write_header(tuz_WroteOut *result, const uint32_t sequences[224], const uint32_t pictures[2048], uint8_t first, tuz_ExtensionGiven extension, tuz_SliceHeader header, uint8_t *out, size_t out_len);
+
+#ifdef __cplusplus
+}
+#endif
+
+#endif
