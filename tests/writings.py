@@ -93,7 +93,7 @@ class Writer:
 
     def operations(self, name, closing, operands, there):
         count, entries = self.r.pop(name)
-        self.hold(count <= 66 and (there or count == 0) and all(e == (0, 0, 0) for e in entries[count:]))
+        self.hold(count <= 66 and (there or count == 0))
         for code, *rest in entries[:count]:
             self.hold(code != closing and code in operands)
             n = operands[code]
@@ -104,10 +104,10 @@ class Writer:
 
     def weights(self, name, n, chroma):
         count, entries = self.r.pop(name)
-        self.hold(count == n and all(e == NO_WEIGHT for e in entries[n:]))
+        self.hold(count == n)
         for e in entries[:n]:
             for flag, values, there in (e[0], e[1:3], 1), (e[3], e[4:8], chroma):
-                self.hold(not flag or there and all(LOW <= v <= HIGH for v in values))
+                self.hold(flag in (0, 1) and (not flag or there and all(LOW <= v <= HIGH for v in values)))
                 self.hold(flag or not any(values))
                 self.bits += (str(flag) if there else "") + ("".join(map(se, values)) if flag else "")
 
@@ -234,45 +234,56 @@ def read_back(first, extension, r, bits):
     return "same" if kind == "slice" and got == words(r, len(bits)) else "other"
 
 
-# Where the fields stand in crates/writings/src/words.rt.
-SLOTS = (
-    "first_mb_in_slice slice_type pic_parameter_set_id seq_parameter_set_id colour_plane_id frame_num field_pic_flag bottom_field_flag idr_pic_id"
-    " pic_order_cnt_lsb delta_pic_order_cnt_bottom delta_0 delta_1 redundant_pic_cnt direct_spatial_mv_pred_flag num_ref_idx_active_override_flag"
-    " num_ref_idx_l0_active_minus1 num_ref_idx_l1_active_minus1 flag_l0 flag_l1 luma_log2_weight_denom chroma_log2_weight_denom"
-    " no_output_of_prior_pics_flag long_term_reference_flag adaptive_ref_pic_marking_mode_flag cabac_init_idc slice_qp_delta sp_for_switch_flag"
-    " slice_qs_delta disable_deblocking_filter_idc slice_alpha_c0_offset_div2 slice_beta_offset_div2 slice_group_change_cycle mods_l0 mods_l1 mmco"
-    " weights_l0 weights_l1"
+# Where a header's words stand: numbers, with a mark before each value that may be absent, then signed numbers, then lists.
+NUMBERS = (
+    "first_mb_in_slice slice_type pic_parameter_set_id seq_parameter_set_id colour_plane_id= frame_num field_pic_flag= bottom_field_flag= idr_pic_id="
+    " pic_order_cnt_lsb= delta_pic_order_cnt_bottom? delta_pic_order_cnt? redundant_pic_cnt= direct_spatial_mv_pred_flag="
+    " num_ref_idx_active_override_flag= num_ref_idx_l0_active_minus1= num_ref_idx_l1_active_minus1= flag_l0= mods_l0# flag_l1= mods_l1#"
+    " luma_log2_weight_denom= chroma_log2_weight_denom= weights_l0# weights_l1# no_output_of_prior_pics_flag= long_term_reference_flag="
+    " adaptive_ref_pic_marking_mode_flag= mmco# cabac_init_idc= sp_for_switch_flag= slice_qs_delta? disable_deblocking_filter_idc="
+    " slice_alpha_c0_offset_div2? slice_beta_offset_div2? slice_group_change_cycle="
 ).split()
-COLUMNS = {"mods_l0": (40, 66), "mods_l1": (238, 66), "mmco": (436, 66), "weights_l0": (640, 32), "weights_l1": (896, 32)}
+SIGNED = "delta_pic_order_cnt_bottom - - slice_qp_delta slice_qs_delta slice_alpha_c0_offset_div2 slice_beta_offset_div2".split()
+LISTS = {"mods_l0": 64, "mods_l1": 262, "mmco": 460, "weights_l0": 658, "weights_l1": 914}
+
+
+def numbers(r):
+    """The first words: `=` has a mark and a value, `?` a mark whose value is signed, `#` is a count."""
+    for name in NUMBERS:
+        if name[-1] == "=":
+            yield from r[name[:-1]]
+        elif name[-1] in "?#":
+            yield r[name[:-1]][0]
+        else:
+            yield r[name]
+
+
+def signed(r):
+    """The signed numbers, of which two are delta_pic_order_cnt's."""
+    deltas = iter(r["delta_pic_order_cnt"][1:])
+    for name in SIGNED:
+        yield next(deltas) if name == "-" else r[name][1] if name in MARKED else r[name]
 
 
 def changes(r):
-    """What makes the record of one that holds nothing: a slot, how many slots from there on, a mark and a value."""
-    mark, first, second = r["delta_pic_order_cnt"]
-    yield SLOTS.index("delta_0"), 1, mark, first
-    yield SLOTS.index("delta_1"), 1, mark, second
-    for name in SLOTS:
-        if name in MARKED:
-            yield SLOTS.index(name), 1, *r[name]
-        elif name in COLUMNS:
-            start, length = COLUMNS[name]
-            count, entries = r[name]
-            yield SLOTS.index(name), 1, 0, count
-            for column, values in enumerate(zip(*entries)):
-                at = start + column * length
-                for value, alike in itertools.groupby(values):
-                    times = len(list(alike))
-                    yield at, times, 0, value
-                    at += times
-        elif name in r:
-            yield SLOTS.index(name), 1, 0, r[name]
+    """What makes the record's words of zeros: a slot, a step, how many slots are so many steps apart, and a value."""
+    for at, value in enumerate([*numbers(r), *signed(r)]):
+        yield at, 0, 1, value
+    for name, start in LISTS.items():
+        step = len(r[name][1][0])
+        for column, values in enumerate(zip(*r[name][1])):
+            at = start + column
+            for value, alike in itertools.groupby(values):
+                times = len(list(alike))
+                yield at, step, times, value
+                at += step * times
 
 
 cases, lines = [], []
 
 
 def shown(name, first, r, extension=None, room=6144):
-    made = [",".join(map(str, c)) for c in changes(r) if c[2:] != (0, 0)]
+    made = [",".join(map(str, c)) for c in changes(r) if c[3]]
     cases.append(f"{name}:{first},{int(extension is not None)},{extension[0] if extension else 0},{room},{len(made)} {' '.join(made)}")
     try:
         bits = header(first, extension, r, room)
@@ -352,6 +363,14 @@ def long():
     shown("the longest", 0x34, LONGEST, MVC)
 
 
+def behind():
+    """Words behind a count are no part of the record."""
+    flagged = changed(PREDICTED, flag_l0=1)
+    shown("a code behind the last", 0x01, changed(flagged, mods_l0=operations((0, 1), unused=[(9, LARGE, LARGE)] * 65)))
+    shown("entries behind an absent list", 0x01, changed(PREDICTED, mods_l0=operations(unused=[(0, 1)] * 66)))
+    shown("a weight behind the last", 0x01, changed(GREY, weights_l0=weight_list(LUMA_ALONE, unused=[(2, 1, 0, -1, 0, 0, 0, 0)] * 31)))
+
+
 def refused():
     shown("first byte e5", 0xE5, SAMPLE)
     shown("first byte e7", 0xE7, SAMPLE)
@@ -363,6 +382,13 @@ def refused():
     shown("type 21, top bit set, picture set 256", 0x75, changed(SAMPLE, pic_parameter_set_id=256), SVC)
     for id in 256, 2**32 - 1, 200, 9:
         shown(f"picture set {id}", 0x65, changed(SAMPLE, pic_parameter_set_id=id))
+    full = changed(SAMPLE, mods_l0=operations(count=67))
+    shown("a count of 67, first byte e5", 0xE5, full)
+    shown("a count of 67, type 7", 0x67, full)
+    shown("a count of 67, type 20 without an extension", 0x74, full)
+    shown("a count of 67, type 20, top bit set", 0x74, full, SVC)
+    for id in 256, 200, 9:
+        shown(f"a count of 67, picture set {id}", 0x65, changed(full, pic_parameter_set_id=id))
     shown("picture set 200, slice_type 10", 0x65, changed(SAMPLE, pic_parameter_set_id=200, slice_type=10))
 
 
@@ -372,6 +398,11 @@ def bad(name, r, first=0x01):
 
 def bad_fields():
     bad("a mark where there is no field", changed(INTRA, colour_plane_id=0))
+    bad("a mark of 2", changed(SAMPLE, idr_pic_id=(2, 0)), 0x65)
+    bad("a mark of 2 of a signed number", changed(SWITCHING, slice_qs_delta=(2, 0)))
+    bad("a mark of 2 of deltas", changed(PLANES, delta_pic_order_cnt=(2, HIGH, LOW)))
+    bad("a flag of 2", changed(PREDICTED, num_ref_idx_active_override_flag=(1, 2)))
+    bad("a list's flag of 2", changed(PREDICTED, flag_l0=(1, 2)))
     bad("a value where there is no field", changed(INTRA, colour_plane_id=(0, 1)))
     bad("a flag where there is no field", changed(INTRA, direct_spatial_mv_pred_flag=(0, 1)))
     bad("an IDR picture without idr_pic_id", changed(SAMPLE, idr_pic_id=ABSENT), 0x65)
@@ -399,9 +430,10 @@ def bad_fields():
 def bad_lists():
     flagged = changed(PREDICTED, flag_l0=1)
     bad("a count of 67", changed(flagged, mods_l0=operations(*[(0, 0)] * 66, count=67)))
+    bad("a count of 4294967295", changed(flagged, mods_l0=operations(*[(0, 0)] * 66, count=2**32 - 1)))
+    bad("a second list's count of 67", changed(BIPREDICTED, flag_l1=1, mods_l1=operations(*[(0, 0)] * 66, count=67)))
+    bad("a count of 67 marking operations", changed(MARKED_BY, mmco=operations(*[(5,)] * 66, count=67)), 0x21)
     bad("a list without its flag", changed(PREDICTED, mods_l0=operations((0, 0))))
-    bad("a code behind the last", changed(flagged, mods_l0=operations(unused=[(0, 0, 0)] * 65 + [(1, 0)])))
-    bad("an operand behind the last", changed(flagged, mods_l0=operations(unused=[(0, 1)])))
     bad("the closing code in a list", changed(flagged, mods_l0=operations((3, 0))))
     bad("modification idc 6", changed(flagged, mods_l0=operations((6, 0))))
     bad("modification idc 4 without MVC", changed(flagged, mods_l0=operations((4, 0))))
@@ -412,12 +444,16 @@ def bad_lists():
     bad("marking operation 7", changed(MARKED_BY, mmco=operations((7,))), 0x21)
     bad("an operand of marking operation 5", changed(MARKED_BY, mmco=operations((5, 1))), 0x21)
     bad("marking of a picture that is no reference", MARKED_BY)
-    bad("a weight behind the last", changed(GREY, weights_l0=weight_list(LUMA_ALONE, unused=[(0, 1, 0, 0, 0, 0, 0, 0)])))
     bad("a weight too many", changed(GREY, weights_l0=weight_list(LUMA_ALONE, NO_WEIGHT)))
     bad("a weight without its flag", changed(GREY, weights_l0=weight_list((0,) + LUMA_ALONE[1:])))
     bad("a weight of -2147483648", changed(GREY, weights_l0=weight_list((1, -(2**31), HIGH, 0, 0, 0, 0, 0))))
     bad("chroma weights without chroma", changed(GREY, weights_l0=weight_list((1, LOW, HIGH, 1, 0, 0, 0, 0))))
     bad("weights of an I slice", changed(INTRA, luma_log2_weight_denom=0))
+    bad("a count of 33 weights", changed(OVERRIDDEN, weights_l0=weight_list(*[FULL_WEIGHT] * 32, count=33)))
+    bad("a second list's count of 33 weights", changed(OVERRIDDEN, weights_l1=weight_list(*[FULL_WEIGHT] * 32, count=33)))
+    bad("a luma flag of 2", changed(GREY, weights_l0=weight_list((2, 1, 1, 0, 0, 0, 0, 0))))
+    bad("a luma flag of -1", changed(GREY, weights_l0=weight_list((-1, 1, 1, 0, 0, 0, 0, 0))))
+    bad("a chroma flag of 2 in the last of 32", changed(OVERRIDDEN, weights_l1=weight_list(*[FULL_WEIGHT] * 31, FULL_WEIGHT[:3] + (2, 1, 1, 1, 1))))
 
 
 def rooms():
@@ -428,11 +464,13 @@ def rooms():
         shown(f"24 bits, room for {n}", 0x01, whole, room=n)
     for n in 5314, 5315:
         shown(f"the longest, room for {n}", 0x34, LONGEST, MVC, room=n)
+    shown("a flag of 2, room for 0", 0x01, changed(PREDICTED, flag_l0=(1, 2)), room=0)
+    shown("a count of 67, room for 0", 0x01, changed(PREDICTED, mods_l0=operations(count=67)), room=0)
     shown("slice_type 10, room for 0", 0x01, changed(INTRA, slice_type=10), room=0)
     shown("picture set 200, room for 0", 0x01, changed(INTRA, pic_parameter_set_id=200), room=0)
 
 
-for part in fields, long, refused, bad_fields, bad_lists, rooms:
+for part in fields, long, behind, refused, bad_fields, bad_lists, rooms:
     part()
 hold("writings", [str(len(cases))] + cases, "stdin")
 hold("writings", lines)

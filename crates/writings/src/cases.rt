@@ -1,6 +1,5 @@
 // The input: how many records there are, and then each: its name up to a colon, the unit's first byte, whether there is an extension, its first byte, the room
-// that is lent, how many changes make the record of one that holds nothing, and these. A change is a slot of `words`, how many slots it is for, a mark and a value.
-use super::made;
+// that is lent, how many changes make its words of zeros, and these. A change is a slot of `words`, a step and how many slots it is for, so many steps apart, and a value.
 use super::numbers::Number;
 use super::numbers::number_at;
 use super::sets;
@@ -31,30 +30,82 @@ fn name(s: &[u8], from: usize, to: usize) {
     }
 }
 
-fn fill(w: &mut [u32; 3456], from: u32, times: u32, mark: u32, v: Number) {
+// Far behind the last slot it stays where it is.
+fn later(at: usize, step: u32) -> usize {
+    if at < 4096 { at + step as usize } else { at }
+}
+
+fn fill(
+    numbers: &mut [u32; 57],
+    signed: &mut [i32; 7],
+    l0: &mut [u32; 198],
+    l1: &mut [u32; 198],
+    marking: &mut [u32; 198],
+    w0: &mut [i32; 256],
+    w1: &mut [i32; 256],
+    from: u32,
+    step: u32,
+    times: u32,
+    v: Number,
+) {
+    let mut at = from as usize;
     let mut i: u32 = 0;
     while i < times {
-        put(w, from as usize + i as usize, mark, v);
+        put(numbers, signed, l0, l1, marking, w0, w1, at, v);
+        at = later(at, step);
         i += 1;
     }
 }
 
 // A change. The place after it.
-fn change(w: &mut [u32; 3456], s: &[u8], at: usize) -> usize {
+fn change(
+    numbers: &mut [u32; 57],
+    signed: &mut [i32; 7],
+    l0: &mut [u32; 198],
+    l1: &mut [u32; 198],
+    marking: &mut [u32; 198],
+    w0: &mut [i32; 256],
+    w1: &mut [i32; 256],
+    s: &[u8],
+    at: usize,
+) -> usize {
     let slot = number_at(s, at);
-    let times = number_at(s, slot.next);
-    let mark = number_at(s, times.next);
-    let v = number_at(s, mark.next);
-    fill(w, slot.size, times.size, mark.size, v);
+    let step = number_at(s, slot.next);
+    let times = number_at(s, step.next);
+    let v = number_at(s, times.next);
+    fill(
+        numbers,
+        signed,
+        l0,
+        l1,
+        marking,
+        w0,
+        w1,
+        slot.size,
+        step.size,
+        times.size,
+        v,
+    );
     v.next
 }
 
 // So many changes. The place after them.
-fn changes(w: &mut [u32; 3456], s: &[u8], from: usize, n: u32) -> usize {
+fn changes(
+    numbers: &mut [u32; 57],
+    signed: &mut [i32; 7],
+    l0: &mut [u32; 198],
+    l1: &mut [u32; 198],
+    marking: &mut [u32; 198],
+    w0: &mut [i32; 256],
+    w1: &mut [i32; 256],
+    s: &[u8],
+    from: usize,
+    n: u32,
+) -> usize {
     let mut at = from;
     let mut i: u32 = 0;
     while i < n {
-        at = change(w, s, at);
+        at = change(numbers, signed, l0, l1, marking, w0, w1, s, at);
         i += 1;
     }
     at
@@ -69,13 +120,36 @@ fn case<'a>(sequences: &'a [u32; 224], pictures: &'a [u32; 2048], s: &[u8], from
     let b1 = number_at(s, there.next);
     let room = number_at(s, b1.next);
     let n = number_at(s, room.next);
-    let mut w = [0u32; 3456];
-    let next = changes(&mut w, s, n.next, n.size);
+    let mut numbers = [0u32; 57];
+    let mut signed = [0i32; 7];
+    let mut l0 = [0u32; 198];
+    let mut l1 = [0u32; 198];
+    let mut marking = [0u32; 198];
+    let mut w0 = [0i32; 256];
+    let mut w1 = [0i32; 256];
+    let next = changes(
+        &mut numbers,
+        &mut signed,
+        &mut l0,
+        &mut l1,
+        &mut marking,
+        &mut w0,
+        &mut w1,
+        s,
+        n.next,
+        n.size,
+    );
     line(
         sequences,
         pictures,
         started(first.size, there.size, b1.size),
-        made::header(&w),
+        &numbers,
+        &signed,
+        &l0,
+        &l1,
+        &marking,
+        &w0,
+        &w1,
         room.size as usize,
     );
     next

@@ -1,11 +1,10 @@
-// Writes records at every limit of document 01 with the writer, and those that it must refuse; what is written becomes a unit, which is read back and compared field
-// by field. The records come from standard input, which tests/writings.py writes; what is printed is held to the file stdout beside src/, which it works out anew,
+// Writes records at every limit of document 01 with the writer, and those that it must refuse; what is written becomes a unit, which is read back and compared word
+// by word. The records come from standard input, which tests/writings.py writes; what is printed is held to the file stdout beside src/, which it works out anew,
 // bit by bit.
 mod show; // answers and bytes as text
 mod sets; // the table
-mod words; // a record as words
-mod made; // the record that words tell of
-mod same; // whether two records are the same
+mod words; // a header's words
+mod same; // whether words hold the same record
 mod built; // a unit made of what was written
 mod shown; // a record's line
 mod numbers; // the input's numbers

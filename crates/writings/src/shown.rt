@@ -1,15 +1,14 @@
-// A record's line: the writer's answer, the bytes, and whether the unit that they make reads back as the record.
+// A record's line: the writer's answer, the bytes, and whether the unit that they make reads back as the record, into words that are zero.
 use super::built;
 use super::same;
 use super::show;
 use bits::put::put_bits;
 use bits::read::Cursor;
-use syntax::record::SliceHeader;
-use unit::answer::UnitAnswer;
-use unit::unit::read_unit_in;
+use lent::whole::ShortAnswer;
+use lent::whole::read_unit_into;
 use writer::given::ExtensionGiven;
 use writer::write::HeaderWrote;
-use writer::write::write_header_in;
+use writer::write::write_words_in;
 
 // What the unit starts with.
 pub(crate) struct Start {
@@ -81,9 +80,9 @@ fn bytes(d: &[u8], bits: usize) {
     kept(d, n);
 }
 
-fn told(answer: UnitAnswer, bits: usize, is_same: bool) {
+fn told(answer: ShortAnswer, bits: usize, is_same: bool) {
     match answer {
-        UnitAnswer::Slice(n) => {
+        ShortAnswer::Slice(n) => {
             if n != bits {
                 show::text(b"other bits");
             } else if is_same {
@@ -92,9 +91,9 @@ fn told(answer: UnitAnswer, bits: usize, is_same: bool) {
                 show::text(b"other");
             }
         }
-        UnitAnswer::Prefix => show::text(b"prefix"),
-        UnitAnswer::Other(_) => show::text(b"no slice"),
-        UnitAnswer::Refused(x) => show::refusal(x),
+        ShortAnswer::Prefix(_) => show::text(b"prefix"),
+        ShortAnswer::Other(_) => show::text(b"no slice"),
+        ShortAnswer::Refused(x) => show::refusal(x),
     }
 }
 
@@ -104,15 +103,57 @@ fn read_part<'a>(
     pictures: &'a [u32; 2048],
     u: &[u8],
     n: usize,
-    h: SliceHeader,
+    numbers: &[u32; 57],
+    signed: &[i32; 7],
+    l0: &[u32; 198],
+    l1: &[u32; 198],
+    marking: &[u32; 198],
+    w0: &[i32; 256],
+    w1: &[i32; 256],
     bits: usize,
 ) {
     if n <= u.len() {
         let mut scratch = [0u8; 9216];
-        let r = read_unit_in(sequences, pictures, &u[..n], &mut scratch);
-        let answer = r.answer;
+        let mut numbers2 = [0u32; 57];
+        let mut signed2 = [0i32; 7];
+        let mut m0 = [0u32; 198];
+        let mut m1 = [0u32; 198];
+        let mut marking2 = [0u32; 198];
+        let mut v0 = [0i32; 256];
+        let mut v1 = [0i32; 256];
+        let mut base = [0u32; 198];
+        let answer = read_unit_into(
+            sequences,
+            pictures,
+            &u[..n],
+            &mut scratch,
+            &mut numbers2,
+            &mut signed2,
+            &mut m0,
+            &mut m1,
+            &mut marking2,
+            &mut v0,
+            &mut v1,
+            &mut base,
+        );
+        let is_same = same::header(
+            numbers,
+            signed,
+            l0,
+            l1,
+            marking,
+            w0,
+            w1,
+            &numbers2,
+            &signed2,
+            &m0,
+            &m1,
+            &marking2,
+            &v0,
+            &v1,
+        );
         show::text(b" back=");
-        told(answer, bits, same::header(r.header, h));
+        told(answer, bits, is_same);
     }
 }
 
@@ -121,10 +162,29 @@ fn read_back<'a>(
     pictures: &'a [u32; 2048],
     u: &[u8; 9216],
     n: usize,
-    h: SliceHeader,
+    numbers: &[u32; 57],
+    signed: &[i32; 7],
+    l0: &[u32; 198],
+    l1: &[u32; 198],
+    marking: &[u32; 198],
+    w0: &[i32; 256],
+    w1: &[i32; 256],
     bits: usize,
 ) {
-    read_part(sequences, pictures, u, n, h, bits);
+    read_part(
+        sequences,
+        pictures,
+        u,
+        n,
+        numbers,
+        signed,
+        l0,
+        l1,
+        marking,
+        w0,
+        w1,
+        bits,
+    );
 }
 
 // Nine set bits follow the header, and so something after the first bit.
@@ -132,14 +192,33 @@ fn back<'a>(
     sequences: &'a [u32; 224],
     pictures: &'a [u32; 2048],
     s: Start,
-    h: SliceHeader,
+    numbers: &[u32; 57],
+    signed: &[i32; 7],
+    l0: &[u32; 198],
+    l1: &[u32; 198],
+    marking: &[u32; 198],
+    w0: &[i32; 256],
+    w1: &[i32; 256],
     d: &mut [u8; 6144],
     bits: usize,
 ) {
     put_bits(d, Cursor { at: bits }, 9, 511);
     let mut u = [0u8; 9216];
     let n = built::unit(&mut u, s.first, s.extension, d, bits / 8 + 3);
-    read_back(sequences, pictures, &u, n, h, bits);
+    read_back(
+        sequences,
+        pictures,
+        &u,
+        n,
+        numbers,
+        signed,
+        l0,
+        l1,
+        marking,
+        w0,
+        w1,
+        bits,
+    );
 }
 
 // The first `room` bytes of the buffer are lent, or all of it.
@@ -147,14 +226,46 @@ fn written<'a>(
     sequences: &'a [u32; 224],
     pictures: &'a [u32; 2048],
     s: Start,
-    h: SliceHeader,
+    numbers: &[u32; 57],
+    signed: &[i32; 7],
+    l0: &[u32; 198],
+    l1: &[u32; 198],
+    marking: &[u32; 198],
+    w0: &[i32; 256],
+    w1: &[i32; 256],
     d: &mut [u8],
     room: usize,
 ) -> HeaderWrote {
     if room <= d.len() {
-        return write_header_in(sequences, pictures, s.first, s.extension, h, &mut d[..room]);
+        return write_words_in(
+            sequences,
+            pictures,
+            s.first,
+            s.extension,
+            numbers,
+            signed,
+            l0,
+            l1,
+            marking,
+            w0,
+            w1,
+            &mut d[..room],
+        );
     }
-    write_header_in(sequences, pictures, s.first, s.extension, h, d)
+    write_words_in(
+        sequences,
+        pictures,
+        s.first,
+        s.extension,
+        numbers,
+        signed,
+        l0,
+        l1,
+        marking,
+        w0,
+        w1,
+        d,
+    )
 }
 
 // A record written into the first `room` bytes of a buffer that is filled with a5.
@@ -162,14 +273,46 @@ pub(crate) fn line<'a>(
     sequences: &'a [u32; 224],
     pictures: &'a [u32; 2048],
     s: Start,
-    h: SliceHeader,
+    numbers: &[u32; 57],
+    signed: &[i32; 7],
+    l0: &[u32; 198],
+    l1: &[u32; 198],
+    marking: &[u32; 198],
+    w0: &[i32; 256],
+    w1: &[i32; 256],
     room: usize,
 ) {
     let mut d = [0xa5u8; 6144];
-    match written(sequences, pictures, s, h, &mut d, room) {
+    match written(
+        sequences,
+        pictures,
+        s,
+        numbers,
+        signed,
+        l0,
+        l1,
+        marking,
+        w0,
+        w1,
+        &mut d,
+        room,
+    ) {
         HeaderWrote::Bits(n) => {
             bytes(&d, n);
-            back(sequences, pictures, s, h, &mut d, n);
+            back(
+                sequences,
+                pictures,
+                s,
+                numbers,
+                signed,
+                l0,
+                l1,
+                marking,
+                w0,
+                w1,
+                &mut d,
+                n,
+            );
         }
         HeaderWrote::Refused(r) => {
             show::refusal(r);

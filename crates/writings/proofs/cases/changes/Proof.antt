@@ -4,10 +4,10 @@ use Rattle.writings.proofs.cases.changes.Statement.{statement}
 use Rattle.writings.proofs.cases.changes.Tie as tie
 
 abbrev Inv-loop : tie.InvT-loop
-Inv-loop w₀ s from n at₀ i₀ w at i = i ≤ n
+Inv-loop numbers₀ signed₀ l0₀ l1₀ marking₀ w0₀ w1₀ s from n at₀ i₀ numbers signed l0 l1 marking w0 w1 at i = i ≤ n
 
 abbrev μ-loop : tie.MeasureT-loop
-μ-loop w₀ s from n at₀ i₀ w at i = n - i
+μ-loop numbers₀ signed₀ l0₀ l1₀ marking₀ w0₀ w1₀ s from n at₀ i₀ numbers signed l0 l1 marking w0 w1 at i = n - i
 
 loop-holds : tie.Need-loop-holds Inv-loop μ-loop
 loop-holds c = search needs

@@ -4,22 +4,19 @@ use Rattle.writings.proofs.cases.fill.Statement.{statement}
 use Rattle.writings.proofs.cases.fill.Tie as tie
 
 abbrev Inv-loop : tie.InvT-loop
-Inv-loop w₀ from times mark v i₀ w i = i ≤ times
+Inv-loop numbers₀ signed₀ l0₀ l1₀ marking₀ w0₀ w1₀ from step times v at₀ i₀ numbers signed l0 l1 marking w0 w1 at i = i ≤ times
 
 abbrev μ-loop : tie.MeasureT-loop
-μ-loop w₀ from times mark v i₀ w i = times - i
+μ-loop numbers₀ signed₀ l0₀ l1₀ marking₀ w0₀ w1₀ from step times v at₀ i₀ numbers signed l0 l1 marking w0 w1 at i = times - i
 
 loop-holds : tie.Need-loop-holds Inv-loop μ-loop
 loop-holds c = search needs
 
-cast-put : tie.Need-cast-put Inv-loop μ-loop
-cast-put c = search needs
-
-add-put : tie.Need-add-put Inv-loop μ-loop
-add-put c = search needs
-
 put-requires : tie.Need-put-requires Inv-loop μ-loop
 put-requires c κs = search needs
+
+later-requires : tie.Need-later-requires Inv-loop μ-loop
+later-requires c κs = search needs
 
 add-i : tie.Need-add-i Inv-loop μ-loop
 add-i c = search needs
@@ -40,9 +37,8 @@ fill-spec =
     Inv-loop
     μ-loop
     loop-holds
-    cast-put
-    add-put
     put-requires
+    later-requires
     add-i
     loop-less
     loop-again

@@ -4,14 +4,14 @@ use borrow.Author.Needs.{needs}
 use Rattle.writings.proofs.shown.written.Statement.{statement}
 use Rattle.writings.proofs.shown.written.Tie as tie
 
-slice-relend-prefix-write-header-in : tie.Need-slice-relend-prefix-write-header-in
-slice-relend-prefix-write-header-in c = search needs
+slice-relend-prefix-write-words-in : tie.Need-slice-relend-prefix-write-words-in
+slice-relend-prefix-write-words-in c = search needs
 
-slice-aggregate-write-header-in : tie.Need-slice-aggregate-write-header-in
-slice-aggregate-write-header-in c = sym (length-take-le _ _ (search needs))
+slice-aggregate-write-words-in : tie.Need-slice-aggregate-write-words-in
+slice-aggregate-write-words-in c = sym (length-take-le _ _ (search needs))
 
-write-header-in-requires : tie.Need-write-header-in-requires
-write-header-in-requires c κs = search needs
+write-words-in-requires : tie.Need-write-words-in-requires
+write-words-in-requires c κs = search needs
 
 same-length : tie.Need-same-length
 same-length c = search needs
@@ -19,8 +19,8 @@ same-length c = search needs
 returns : tie.Need-returns
 returns c = search needs
 
-write-header-in-requires-2 : tie.Need-write-header-in-requires-2
-write-header-in-requires-2 c κs = search needs
+write-words-in-requires-2 : tie.Need-write-words-in-requires-2
+write-words-in-requires-2 c κs = search needs
 
 same-length-2 : tie.Need-same-length-2
 same-length-2 c = search needs
@@ -32,11 +32,11 @@ pub written-spec : {M : Type 1} → statement M
 written-spec =
     tie.close
     (tie.spec
-    slice-relend-prefix-write-header-in
-    slice-aggregate-write-header-in
-    write-header-in-requires
+    slice-relend-prefix-write-words-in
+    slice-aggregate-write-words-in
+    write-words-in-requires
     same-length
     returns
-    write-header-in-requires-2
+    write-words-in-requires-2
     same-length-2
     returns-2)

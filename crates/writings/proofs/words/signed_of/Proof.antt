@@ -7,8 +7,8 @@ use mir.Syntax.{w32}
 use mir.Val.{SFits, toZ}
 use mir.Facts.{toZ-pos}
 use borrow.Author.Needs.{needs}
-use Rattle.writings.proofs.words.signed.Statement.{statement}
-use Rattle.writings.proofs.words.signed.Tie as tie
+use Rattle.writings.proofs.words.signed_of.Statement.{statement}
+use Rattle.writings.proofs.words.signed_of.Tie as tie
 
 returns : tie.Need-returns
 returns c = search needs
@@ -35,5 +35,5 @@ returns-2 c = search needs
 returns-3 : tie.Need-returns-3
 returns-3 c = search needs
 
-pub signed-spec : {M : Type 1} → statement M
-signed-spec = tie.close (tie.spec returns cast-z sub-result returns-2 returns-3)
+pub signed-of-spec : {M : Type 1} → statement M
+signed-of-spec = tie.close (tie.spec returns cast-z sub-result returns-2 returns-3)
