@@ -15,8 +15,9 @@ pub type ListWords = [u32; 198];
 /// The words of weights: eight an entry, in the syntax's order, with flags as 0 and 1.
 pub type WeightWords = [i32; 256];
 
-/// What a reading is lent. A slice writes all words of its fields and, in its lists, those of the entries that it has; a prefix unit writes those of its entries in
-/// `base`. All other words stay as they were, so they mean nothing beyond a list's count or beside another answer. Beside a refusal all are zeros.
+/// What a reading is lent. A slice writes all words of its fields and, in its lists, those of the entries that it has, after it has zeroed the entries that the counts
+/// standing in the words say are in use: words that were zeros behind their counts, as those of `default()`, stay so. A prefix unit writes all of `base`: its entries,
+/// and zeros behind them. Words that an answer does not speak of stay as they were. Beside a refusal all are zeros.
 #[derive(Clone, Debug, PartialEq, Eq)]
 #[repr(C)]
 pub struct Words {
