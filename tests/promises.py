@@ -139,7 +139,8 @@ def faults(f):
     if f.answers and not answered and told:
         yield "does not say its result"
     for word in f.lent:
-        if not any(re.search(rf"«?\b{word}»?\s+\.exit\b", fact) for fact in told):
+        # at its exit, alone or among several that one name puts together: `now (d .exit)`, `words d e .exit`
+        if not any(re.search(rf"«?\b{word}»?(?:\s+«?\w+»?)*\s+\.exit\b", fact) for fact in told):
             yield f"does not say what it leaves in `{word}`"
 
 
@@ -165,6 +166,8 @@ TRIED = [
     ("pub fn f(d: &mut [u8])\n ensures { λ _. ⌜ now (d .exit) ≡ now (d .exit) ⌝ }\n{ }", ["f has a clause that says nothing", "f does not say what it leaves in `d`"]),
     ("impl S {\n    pub fn f(&mut self) -> u32\n        ensures { λ r. ⌜ r ≡ 1 ⌝ }\n    { 1 }\n}", ["S::f does not say what it leaves in `self`"]),
     ("pub fn f(d: &mut [u8], x: u32) -> u32\n ensures { λ r. ⌜ (r ≡ g x .answer) × (now (d .exit) ≡ g x .left) ⌝ }\n{ b\"{\"; 1 }", []),
+    ("pub fn f(d: &mut [u8], e: &mut [u8])\n ensures { λ _. ⌜ both d e .exit ≡ g (both d e .entry) ⌝ }\n{ }", []),
+    ("pub fn f(d: &mut [u8], e: &mut [u8])\n ensures { λ _. ⌜ both d .exit ≡ g (both d e .entry) ⌝ }\n{ }", ["f does not say what it leaves in `e`"]),
     ("pub fn f(d: &mut [u8; 4]) -> u32\n ensures { λ r. ⌜ Written a (now (d .entry)) r (now (d .exit)) ⌝ }\n{ 1 }", []),
     ("pub fn f(«x»: u32) -> R<'a>\n ensures { λ q. ⌜ _≡_ {A = R} q (record { a = «x» }) ⌝ }\n{ 1 }", []),
     ("fn f(x: u32) -> u32 { x }\npub(crate) fn g(x: u32) -> u32 { x }", []),
