@@ -17,7 +17,8 @@ use Rattle.fmt.specs.Leaves.{flag, u}
 use Rattle.fmt.proofs.Turns.{test-passes, test-refuses}
 use Rattle.syntax.specs.Marks.{isZero, numberIf, signedIf, flagIf, given}
 use Rattle.syntax.specs.declared.marks.MarkedNumber.{MarkedNumber}
-use Rattle.codes.specs.Marked.{markedNumber, markedSigned, markedFlag, noNumber, noSigned, noFlag}
+use Rattle.syntax.specs.Absent.{noNumber, noSigned, noFlag}
+use Rattle.codes.specs.Marked.{markedNumber, markedSigned, markedFlag}
 
 -- ---- there only if b: what was read, in the record's shape; or the zero, and the place stays
 

@@ -1,4 +1,3 @@
 pub mod Cases
-pub mod Ends
 pub mod Sums
 pub mod Unique

@@ -1,8 +1,8 @@
--- A field's mark, set and clear: what the private functions of number, flag and signed say. No public contract cites these; the laws in proofs/ carry them over
+-- A field's mark, set: what the private functions of number, flag and signed say. No public contract cites these; the laws in proofs/ carry them over
 -- to the formats.
 use Prim.Native.Nat.{ℕ}
-use mathlib.Core.Bool.{Bool, true, false}
-use lib.IntN.{ℤ, pos}
+use mathlib.Core.Bool.{Bool, true}
+use lib.IntN.{ℤ}
 use Rattle.bits.specs.Refusals.{Res, got, bind}
 use Rattle.syntax.specs.declared.marks.MarkedNumber.{MarkedNumber}
 use Rattle.syntax.specs.declared.marks.MarkedSigned.{MarkedSigned}
@@ -18,14 +18,3 @@ markedSigned m = bind m (λ v e. got (record { there = true; value = v }) e)
 
 abbrev pub markedFlag : Res Bool → Res MarkedFlag
 markedFlag m = bind m (λ v e. got (record { there = true; value = v }) e)
-
--- what is absent
-
-abbrev pub noNumber : MarkedNumber
-noNumber = record { there = false; value = 0 }
-
-abbrev pub noSigned : MarkedSigned
-noSigned = record { there = false; value = pos 0 }
-
-abbrev pub noFlag : MarkedFlag
-noFlag = record { there = false; value = false }

@@ -34,11 +34,6 @@ abbrev pub asEnd : {A : Type 0} → End → A → Res A
 asEnd (End.At c) a = got a (c .at)
 asEnd (End.Refused r) a = no r
 
--- the whole of a struct that holds a part and the place where its reading ended: beside a refusal the part is its zero value
-unfoldable pub beside : {A S : Type 0} → (A → End → S) → A → Res A → S
-beside make zero (got a e) = make a (End.At (record { at = e }))
-beside make zero (no r) = make zero (End.Refused r)
-
 abbrev pub whyNumber : NumberStep → Refusal
 whyNumber (NumberStep.Got m c) = none
 whyNumber (NumberStep.Refused r) = r

@@ -7,7 +7,8 @@ ghost use mathlib.Core.Path.{_≡_};
 ghost use Rattle.bits.specs.Answers as bits;
 ghost use Rattle.bits.specs.Refusals.{got};
 ghost use Rattle.codes.specs.Steps.{asFlag};
-ghost use Rattle.codes.specs.Marked.{markedFlag, noFlag};
+ghost use Rattle.syntax.specs.Absent.{noFlag};
+ghost use Rattle.codes.specs.Marked.{markedFlag};
 
 // An answer with the mark set.
 pub(crate) fn marked_flag(a: ReadFlag) -> FlagStep

@@ -7,7 +7,8 @@ ghost use mathlib.Core.Path.{_≡_};
 ghost use Rattle.bits.specs.Answers.{asRead};
 ghost use Rattle.bits.specs.Refusals.{got};
 ghost use Rattle.codes.specs.Steps.{asNumber};
-ghost use Rattle.codes.specs.Marked.{markedNumber, noNumber};
+ghost use Rattle.syntax.specs.Absent.{noNumber};
+ghost use Rattle.codes.specs.Marked.{markedNumber};
 
 // An answer with the mark set.
 pub(crate) fn marked(a: Read) -> NumberStep

@@ -10,7 +10,8 @@ ghost use Rattle.bits.specs.Bits.{bitsOf};
 ghost use Rattle.bits.specs.Refusals.{got};
 ghost use Rattle.fmt.specs.Leaves.{se};
 ghost use Rattle.codes.specs.Steps.{asSigned, asGiven};
-ghost use Rattle.codes.specs.Marked.{markedSigned, noSigned};
+ghost use Rattle.syntax.specs.Absent.{noSigned};
+ghost use Rattle.codes.specs.Marked.{markedSigned};
 
 // se(v).
 pub(crate) fn code(s: &[u8], c: Cursor) -> SignedGiven

@@ -5,8 +5,8 @@ use Prim.Native.Nat.{ℕ}
 use lib.IntN.{ℤ}
 use lib.ListN.{length}
 use Rattle.unit.specs.declared.answer.UnitRead.{UnitRead}
-use Rattle.lent.specs.declared.whole.ShortAnswer.{ShortAnswer}
-use Rattle.lent.specs.Lent.{shortAnswer, Lent, wordsAfter}
+use Rattle.unit.specs.declared.into.ShortAnswer.{ShortAnswer}
+use Rattle.unit.specs.Into.{shortAnswer, Lent, wordsAfter}
 use Rattle.lines.specs.Lines.{unitLine, lentLine}
 use Rattle.lines.proofs.Lent.{lent-line}
 use Rattle.exports.specs.declared.units.ReadOut.{ReadOut}

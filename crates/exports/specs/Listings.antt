@@ -3,9 +3,9 @@ use Prim.Native.Nat.{ℕ}
 use lib.Dec.{eqb}
 use lib.IntN.{ℤ}
 use Rattle.bits.specs.Refusals.{pick}
-use Rattle.lists.specs.Absent.{noPrefix}
+use Rattle.syntax.specs.Absent.{noPrefix}
 use Rattle.words.specs.ListsLent.{prefixShort}
-use Rattle.lent.specs.declared.whole.ShortAnswer.{ShortAnswer}
+use Rattle.unit.specs.declared.into.ShortAnswer.{ShortAnswer}
 
 -- by its answer, number and value: 0, another type; 1, a slice; 2, a prefix unit; else refused. A line speaks neither of a header's length nor of a prefix's fields
 unfoldable pub heard : ℕ → ℕ → ℤ → ShortAnswer

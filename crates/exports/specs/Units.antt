@@ -1,11 +1,11 @@
 -- What reading a unit answers, as a plain struct.
 use lib.IntN.{pos}
 use Rattle.bits.specs.declared.refusals.Refusal.{Refusal}
-use Rattle.lists.specs.Absent.{noPrefix}
+use Rattle.syntax.specs.Absent.{noPrefix}
 use Rattle.words.specs.ListsLent.{prefixShort}
 use Rattle.unit.specs.declared.answer.UnitRead.{UnitRead}
-use Rattle.lent.specs.declared.whole.ShortAnswer.{ShortAnswer}
-use Rattle.lent.specs.Lent.{shortAnswer}
+use Rattle.unit.specs.declared.into.ShortAnswer.{ShortAnswer}
+use Rattle.unit.specs.Into.{shortAnswer}
 use Rattle.exports.specs.declared.units.ReadOut.{ReadOut}
 
 -- 0, another type, with the type; 1, a slice, with its bits; 2, a prefix unit; 3, refused, with number and value

@@ -3,8 +3,8 @@ use lib.IntN.{pos}
 use Rattle.bits.specs.declared.refusals.Refusal.{Refusal}
 use Rattle.walk.specs.declared.walk.Step.{Step}
 use Rattle.walk.specs.Walked.{Walked}
-use Rattle.lent.specs.declared.whole.ShortAnswer.{ShortAnswer}
-use Rattle.lent.specs.Lent.{shortAnswer}
+use Rattle.unit.specs.declared.into.ShortAnswer.{ShortAnswer}
+use Rattle.unit.specs.Into.{shortAnswer}
 use Rattle.exports.specs.declared.walks.WalkOut.{WalkOut}
 use Rattle.exports.specs.declared.walks.Came.{Came}
 use Rattle.exports.specs.Units.{told}

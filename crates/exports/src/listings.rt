@@ -1,7 +1,7 @@
 // The lines of a listing, for a host that walks by itself: each is written to the front of a lent buffer of 128 bytes, and the answer is its length.
 use crate::units::no_prefix;
 use bits::refusals::Refusal;
-use lent::whole::ShortAnswer;
+use unit::into::ShortAnswer;
 use lines::line::end_line;
 use lines::line::unit_line;
 ghost use mathlib.Core.Path.{_≡_};

@@ -1,15 +1,15 @@
 // Whole units.
 use bits::refusals::Refusal;
-use lent::whole::ShortAnswer;
-use lent::whole::read_unit_into;
+use unit::into::ShortAnswer;
+use unit::into::read_unit_into;
 use syntax::marks::MarkedFlag;
 use words::list_words::PrefixShort;
 ghost use mathlib.Core.Path.{_≡_};
-ghost use Rattle.lists.specs.Absent.{noPrefix};
+ghost use Rattle.syntax.specs.Absent.{noPrefix};
 ghost use Rattle.header.specs.Lead.{tableOf};
 ghost use Rattle.words.specs.ListsLent.{prefixShort};
 ghost use Rattle.unit.specs.Unit.{unitRead};
-ghost use Rattle.lent.specs.Lent.{lentWords, wordsAfter};
+ghost use Rattle.unit.specs.Into.{lentWords, wordsAfter};
 ghost use Rattle.exports.specs.Units.{told, unitOut};
 
 // What reading a unit answers. What the answer does not speak of is zero.

@@ -2,13 +2,13 @@
 use crate::units::ReadOut;
 use crate::units::tell;
 use bits::refusals::Refusal;
-use lent::whole::ShortAnswer;
+use unit::into::ShortAnswer;
 use walk::walk::Step;
 use walk::walk::walk_into;
 ghost use mathlib.Core.Path.{_≡_};
 ghost use Rattle.header.specs.Lead.{tableOf};
 ghost use Rattle.walk.specs.Walked.{walked};
-ghost use Rattle.lent.specs.Lent.{lentWords, wordsAfter};
+ghost use Rattle.unit.specs.Into.{lentWords, wordsAfter};
 ghost use Rattle.exports.specs.Walks.{came, walkTold, walkOut};
 
 // A step of the walk. What it does not speak of is zero.

@@ -1,12 +1,12 @@
 -- A header's counts of references are at most 32: its own by their test, the picture set's by the table's ranges. So reading weights at most 32 times is reading
 -- them as often as the header says.
 use Prim.Native.Nat.{ℕ, _≤_}
-use mathlib.Core.Path.{_≡_, sym, ap₂, subst, _∙_}
+use mathlib.Core.Path.{_≡_, sym, subst, _∙_}
 use mathlib.Core.Bool.{Bool, _&&_}
 use lib.Dec.{leb, leb→le}
 use lib.IntN.{pos}
 use borrow.Author.Tests.{le-leb}
-use Rattle.bits.specs.Refusals.{got, bind}
+use Rattle.bits.specs.Refusals.{Res, got, bind}
 use Rattle.bits.specs.Bits.{Bits}
 use Rattle.bits.proofs.Results.{under, bind-bind}
 use Rattle.fmt.specs.Fmt.{seq, shaped}
@@ -19,7 +19,7 @@ use Rattle.syntax.specs.declared.marks.MarkedNumber.{MarkedNumber}
 use Rattle.syntax.specs.declared.record.ActiveCounts.{ActiveCounts}
 use Rattle.syntax.specs.Marks.{numberIf, flagIf}
 use Rattle.syntax.specs.Context.{isB, hasL0}
-use Rattle.syntax.specs.SliceHeader.{activeMinus1, frame, orderCount, activeCounts, activeL0, activeL1, predWeightTable, lead}
+use Rattle.syntax.specs.SliceHeader.{activeMinus1, frame, orderCount, activeCounts, activeL0, activeL1, lead}
 use Rattle.syntax.proofs.Sets.{Few, defaults-few}
 use Rattle.syntax.proofs.Goods.{FewOwn}
 use Rattle.syntax.proofs.Whole.{active-few}
@@ -37,8 +37,12 @@ few-same n h = rw (le-leb n 32 h)
 pub twice-same : (n : ℕ) → atMost32 (atMost32 n) ≡ atMost32 n
 twice-same n = few-same (atMost32 n) (at-most-32 n)
 
+-- the first fields, with the sets that they name
+abbrev pub ledAt : Table → Bits → ℕ → Res Led
+ledAt t s at = bind (lead t .read s at) (λ v e. got (ledOf t v) e)
+
 -- the picture set's counts
-pub led-few : (t : Table) (s : Bits) (at : ℕ) {l : Led} {e : ℕ} → bind (lead t .read s at) (λ v e. got (ledOf t v) e) ≡ got l e → Few (l .picture)
+led-few : (t : Table) (s : Bits) (at : ℕ) {l : Led} {e : ℕ} → ledAt t s at ≡ got l e → Few (l .picture)
 led-few t s at {l} h =
     under (lead t .read s at) _ h
     (λ v d hv k. let w : ledOf t v ≡ l = cc k in subst (λ (p : Led). Few (p .picture)) w (defaults-few t (v .1 .1)))
@@ -59,7 +63,7 @@ counts-read : (k : ℕ) (s : Bits) (at : ℕ)
 unfolding activeCounts seq shaped
 counts-read k s at = simp bind-bind
 
-pub counts-few : (k : ℕ) (s : Bits) (at : ℕ) {a : ActiveCounts} {e : ℕ} → activeCounts k .read s at ≡ got a e → FewOwn a
+counts-few : (k : ℕ) (s : Bits) (at : ℕ) {a : ActiveCounts} {e : ℕ} → activeCounts k .read s at ≡ got a e → FewOwn a
 counts-few k s at {a} h =
     under (flagIf (isB k) .read s at) _ (sym (counts-read k s at) ∙ h) (λ d c hd h₁.
     under (flagIf (hasL0 k) .read s c) _ h₁ (λ o e ho h₂.
@@ -79,14 +83,13 @@ front-few x k s at {f} h =
 
 -- the counts as the code has them are the header's
 module _ (n : UnitKind) (l : Led) (a : ActiveCounts) (p : Few (l .picture)) (o : FewOwn a) where
-  pub l0-same : atMost32 (activeL0 (contextOf n l) a) ≡ activeL0 (contextOf n l) a
+  l0-same : atMost32 (activeL0 (contextOf n l) a) ≡ activeL0 (contextOf n l) a
   l0-same = few-same _ (active-few (a .«num_ref_idx_l0_active_minus1») _ (o .l0) (p .l0))
 
-  pub l1-same : atMost32 (activeL1 (contextOf n l) a) ≡ activeL1 (contextOf n l) a
+  l1-same : atMost32 (activeL1 (contextOf n l) a) ≡ activeL1 (contextOf n l) a
   l1-same = few-same _ (active-few (a .«num_ref_idx_l1_active_minus1») _ (o .l1) (p .l1))
 
--- so the weights that the code reads are the header's
-module _ (t : Table) (n : UnitKind) (s : Bits) (at : ℕ) {l : Led} {c : ℕ} (hl : bind (lead t .read s at) (λ v e. got (ledOf t v) e) ≡ got l c)
+module _ (t : Table) (n : UnitKind) (s : Bits) (at : ℕ) {l : Led} {c : ℕ} (hl : ledAt t s at ≡ got l c)
     {f : FrontParts} {d : ℕ} (hf : frontAt (contextOf n l) (l .«slice_type») s c ≡ got f d) where
   -- as the code has them, and as the header has them
   pub counts-same : (atMost32 (activeL0 (contextOf n l) (f .«active_counts»)) ≡ activeL0 (contextOf n l) (f .«active_counts»))
@@ -95,9 +98,3 @@ module _ (t : Table) (n : UnitKind) (s : Bits) (at : ℕ) {l : Led} {c : ℕ} (h
       let p = led-few t s at hl in
       let o = front-few (contextOf n l) (l .«slice_type») s c hf in
       (l0-same n l (f .«active_counts») p o, l1-same n l (f .«active_counts») p o)
-
-  pub weights-same : (e : ℕ)
-      → predWeightTable (contextOf n l) (l .«slice_type») (activeL0 (contextOf n l) (f .«active_counts»)) (activeL1 (contextOf n l) (f .«active_counts»)) .read s e
-      ≡ predWeightTable (contextOf n l) (l .«slice_type») (atMost32 (activeL0 (contextOf n l) (f .«active_counts»))) (atMost32 (activeL1 (contextOf n l) (f .«active_counts»))) .read s e
-  weights-same e =
-      ap₂ (λ (i j : ℕ). predWeightTable (contextOf n l) (l .«slice_type») i j .read s e) (sym (counts-same .0)) (sym (counts-same .1))

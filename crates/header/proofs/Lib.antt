@@ -3,4 +3,3 @@ pub mod Sets
 pub mod Unique
 pub mod Split
 pub mod Counts
-pub mod Cases

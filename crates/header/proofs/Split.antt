@@ -1,31 +1,24 @@
--- Reading the header is its first fields, then the stages one after the other, then the test of what follows.
-use Prim.Native.Nat.{ℕ, _+_}
+-- Reading the header's parts is reading the stages one after the other.
+use Prim.Native.Nat.{ℕ}
 use mathlib.Core.Path.{_≡_}
-use lib.IntN.{pos}
-use lib.ListN.{drop}
-use Rattle.bits.specs.Refusals.{Res, got, no, bind, pick, refusal}
+use Rattle.bits.specs.Refusals.{got, bind}
 use Rattle.bits.specs.Bits.{Bits}
 use Rattle.bits.proofs.Results.{bind-bind}
 use Rattle.fmt.specs.Fmt.{seq, shaped}
-use Rattle.table.specs.declared.table.Table.{Table}
-use Rattle.syntax.specs.declared.context.UnitKind.{UnitKind}
 use Rattle.syntax.specs.declared.context.Context.{Context}
 use Rattle.syntax.specs.declared.marks.MarkedFlag.{MarkedFlag}
 use Rattle.syntax.specs.declared.record.Operations.{Operations}
 use Rattle.syntax.specs.declared.record.Modifications.{Modifications}
 use Rattle.syntax.specs.declared.record.PredWeightTable.{PredWeightTable}
 use Rattle.syntax.specs.declared.record.DecRefPicMarking.{DecRefPicMarking}
-use Rattle.syntax.specs.declared.record.SliceHeader.{SliceHeader}
 use Rattle.syntax.specs.Marks.{flagIf}
 use Rattle.syntax.specs.Lists.{operationsIf}
-use Rattle.syntax.specs.Context.{isB, contextFor, sequenceIdFor}
-use Rattle.syntax.specs.SliceHeader.{Parts, parts, lead, modificationKind, modification, modifications, predWeightTable, markingKind, decRefPicMarking, header, readHeader, activeL0, activeL1, anySet}
-use Rattle.header.specs.declared.lead.Led.{Led}
+use Rattle.syntax.specs.Context.{isB}
+use Rattle.syntax.specs.SliceHeader.{Parts, parts, modificationKind, modification, modifications, predWeightTable, markingKind, decRefPicMarking, activeL0, activeL1}
 use Rattle.header.specs.declared.stages.FrontParts.{FrontParts}
 use Rattle.header.specs.declared.stages.MarkingFlags.{MarkingFlags}
 use Rattle.header.specs.declared.stages.BackParts.{BackParts}
-use Rattle.header.specs.Lead.{ledOf}
-use Rattle.header.specs.Stages.{contextOf, headerOf, frontAt, firstFlagAt, markingFlagsAt, backAt}
+use Rattle.header.specs.Stages.{frontAt, firstFlagAt, markingFlagsAt, backAt}
 
 abbrev pub modificationsOf : MarkedFlag → Operations → MarkedFlag → Operations → Modifications
 modificationsOf g o h p = record { l0 = record { flag = g; operations = o }; l1 = record { flag = h; operations = p } }
@@ -68,22 +61,3 @@ module _ (x : Context) (k : ℕ) (s : Bits) (at : ℕ) where
       got (partsOf f m w r b) h)))))
   unfolding parts seq frontAt backAt
   parts-split = simp bind-bind
-
-module _ (n : UnitKind) (s : Bits) where
-  -- what follows the first fields
-  abbrev pub rest : Led → ℕ → Res SliceHeader
-  rest l c =
-      bind (frontAt (contextOf n l) (l .«slice_type») s c) (λ f c1.
-      bind (firstFlagAt (contextOf n l) (l .«slice_type») s c1) (λ g c2.
-      bind (operationsIf (g .value) (modificationKind (n .mvc)) .read s c2) (λ o c3.
-      bind (flagIf (isB (l .«slice_type»)) .read s c3) (λ h c4.
-      bind (operationsIf (h .value) (modificationKind (n .mvc)) .read s c4) (λ p c5.
-      bind (predWeightTable (contextOf n l) (l .«slice_type») (activeL0 (contextOf n l) (f .«active_counts»)) (activeL1 (contextOf n l) (f .«active_counts»)) .read s c5) (λ w c6.
-      bind (markingFlagsAt (contextOf n l) s c6) (λ m c7.
-      bind (operationsIf (m .«adaptive_ref_pic_marking_mode_flag» .value) markingKind .read s c7) (λ q c8.
-      bind (backAt (contextOf n l) (l .«slice_type») s c8) (λ b e.
-      pick (anySet (drop (e + 1) s)) (got (headerOf l f (modificationsOf g o h p) w (markingOf m q) b) e) (no (refusal 22 (pos 0) e)))))))))))
-
-  pub header-split : (t : Table) → readHeader t n s ≡ bind (bind (lead t .read s 0) (λ v e. got (ledOf t v) e)) rest
-  unfolding readHeader header shaped seq contextFor sequenceIdFor
-  header-split t = simp (bind-bind, parts-split, modifications-split, marking-split)

@@ -6,7 +6,7 @@ use lib.ListN.{length}
 use Rattle.short.specs.Short.{numbersOf, signedOf}
 use Rattle.unit.specs.declared.answer.UnitAnswer.{UnitAnswer}
 use Rattle.unit.specs.declared.answer.UnitRead.{UnitRead}
-use Rattle.lent.specs.Lent.{short, shortAnswer, Lent, after, wordsAfter}
+use Rattle.unit.specs.Into.{short, shortAnswer, Lent, after, wordsAfter}
 use Rattle.lines.specs.Lines.{textOf, lentText, unitLine, lentLine}
 
 module _ (pictures unit : List ℕ) (u : UnitRead) (b : Lent) where

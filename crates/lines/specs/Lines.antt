@@ -14,7 +14,7 @@ use Rattle.nal.specs.Extension.{extensionOf}
 use Rattle.syntax.specs.declared.record.SliceHeader.{SliceHeader}
 use Rattle.unit.specs.declared.answer.UnitAnswer.{UnitAnswer}
 use Rattle.unit.specs.declared.answer.UnitRead.{UnitRead}
-use Rattle.lent.specs.declared.whole.ShortAnswer.{ShortAnswer}
+use Rattle.unit.specs.declared.into.ShortAnswer.{ShortAnswer}
 use Rattle.lines.specs.Level.{finalQp}
 use Rattle.lines.specs.Text.{words, signed, field}
 

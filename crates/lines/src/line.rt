@@ -4,7 +4,7 @@ use crate::text::field;
 use crate::text::signed_number;
 use crate::text::words;
 use bits::refusals::Refusal;
-use lent::whole::ShortAnswer;
+use unit::into::ShortAnswer;
 use nal::extension::ExtensionRead;
 use nal::extension::NalHeaderExtension;
 use nal::extension::extension_of;

@@ -11,7 +11,7 @@ use Rattle.bits.specs.Refusals.{limit}
 use Rattle.table.specs.declared.table.Table.{Table}
 use Rattle.unit.specs.declared.answer.UnitAnswer.{UnitAnswer}
 use Rattle.unit.specs.declared.answer.UnitRead.{UnitRead}
-use Rattle.lent.specs.Lent.{short, shortAnswer, wordsAfter}
+use Rattle.unit.specs.Into.{short, shortAnswer, wordsAfter}
 use Rattle.walk.specs.declared.search.Found.{Found}
 use Rattle.walk.specs.declared.walk.Step.{Step}
 use Rattle.walk.specs.Walk.{nextUnit}

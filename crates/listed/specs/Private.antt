@@ -5,8 +5,8 @@ use mathlib.Core.List.{List, []}
 use mathlib.Core.Bool.{Bool, true, false}
 use lib.ListN.{replicate}
 use Rattle.short.specs.Short.{zeros}
-use Rattle.lent.specs.declared.whole.ShortAnswer.{ShortAnswer}
-use Rattle.lent.specs.Lent.{shortAnswer, Lent, wordsAfter}
+use Rattle.unit.specs.declared.into.ShortAnswer.{ShortAnswer}
+use Rattle.unit.specs.Into.{shortAnswer, Lent, wordsAfter}
 use Rattle.walk.specs.Walked.{WalkOut}
 use Rattle.listed.specs.declared.step.State.{State}
 use Rattle.listed.specs.declared.step.Listed.{Listed}

@@ -1,5 +1,5 @@
 // One step of a listing: the walk's next unit as a line; or the last line, with the totals.
-use lent::whole::ShortAnswer;
+use unit::into::ShortAnswer;
 use lines::line::end_line;
 use lines::line::too_long_line;
 use lines::line::unit_line;

@@ -1,3 +1,2 @@
 pub mod Reading
-pub mod Ends
 pub mod Unique

@@ -10,7 +10,7 @@ use Rattle.bits.specs.Codes.{ueAt, seAt}
 use Rattle.bits.specs.Width.{changeCycleWidth}
 use Rattle.escape.specs.Body.{body}
 use Rattle.syntax.specs.Sample.{sampleTable, sampleHeader}
-use Rattle.lists.specs.Absent.{noPrefix}
+use Rattle.syntax.specs.Absent.{noPrefix}
 use Rattle.unit.specs.declared.answer.UnitAnswer.{UnitAnswer}
 use Rattle.unit.specs.declared.answer.UnitRead.{UnitRead}
 use Rattle.unit.specs.Answer.{only}

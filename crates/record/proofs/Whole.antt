@@ -6,7 +6,7 @@ use mathlib.Core.List.{List, [], _∷_, _++_}
 use native.Mathlib.Omega.{arith}
 use lib.Dec.{T, eqb, leb, leb→le, eqb→eq}
 use lib.IntN.{pos}
-use lib.ListN.{length, getD, drop}
+use lib.ListN.{length, getD, drop, replicate}
 use lib.Seq.{sets, drop-cons, drop-length}
 use borrow.Author.Tests.{le-leb}
 use Rattle.bits.specs.Refusals.{pick}
@@ -15,7 +15,11 @@ use Rattle.fmt.proofs.Arrays.{padded-le}
 use Rattle.syntax.proofs.Operations.{few-operations}
 use Rattle.fmt.proofs.Lawful.{both-0, both-1, T-true}
 use Rattle.table.specs.declared.table.Table.{Table}
+use Rattle.fmt.specs.Arrays.{pad}
+use Rattle.syntax.specs.Absent.{noHeader, noPrefix}
+use Rattle.syntax.specs.Lists.{toOperations, okOperations}
 use Rattle.syntax.specs.SliceHeader.{isNoWeight, header}
+use Rattle.weights.specs.Counts.{atMost32}
 use Rattle.syntax.proofs.Goods.{seq-first, seq-rest, shaped-from}
 use Rattle.syntax.specs.declared.context.UnitKind.{UnitKind}
 use Rattle.syntax.specs.declared.marks.MarkedFlag.{MarkedFlag}
@@ -23,12 +27,12 @@ use Rattle.syntax.specs.declared.marks.MarkedNumber.{MarkedNumber}
 use Rattle.syntax.specs.declared.record.SliceHeader.{SliceHeader}
 use Rattle.syntax.specs.Prefix.{prefix}
 use Rattle.syntax.specs.declared.record.Prefix.{Prefix}
-use Rattle.words.specs.ListsLent.{listWords, prefixShort}
+use Rattle.words.specs.ListsLent.{listWords, atMost66, prefixShort}
 use Rattle.words.specs.WeightsLent.{weightWords}
-use Rattle.short.specs.Short.{bit, numberWords, flagWords, shortOf, numbersOf, signedOf, HeaderWords, emptied, headerIn}
+use Rattle.short.specs.Short.{bit, numberWords, flagWords, shortOf, numbersOf, signedOf, HeaderWords, emptied, headerIn, zeros}
 use Rattle.short.proofs.Tidy.{InOrder, good-in-order, operationsIf-ok}
 use Rattle.record.specs.Fields.{numberIn, setIn, markedNumber, markedFlag, frameFrom, orderCountFrom, activeCountsFrom, quantiserFrom, filterFrom}
-use Rattle.record.specs.Entries.{operationsFrom, weightsFrom}
+use Rattle.record.specs.Entries.{operationsIn, operationsFrom, weightsIn, weightsFrom}
 use Rattle.record.specs.Record.{modificationsFrom, weightTableFrom, markingFrom, headerFrom, prefixFrom, within, withins, flags, plainNumbers, plainWeights, plain}
 use Rattle.record.proofs.Round.{operations-from-in, count-from, list-in-from, length-emptied, list-behind, weights-from-in, weights-plain, weights-count, weights-in-from, length-emptied-weights, weights-behind}
 
@@ -74,6 +78,14 @@ pub record Sized (b : HeaderWords) : Type 0 where
 
 -- ---- a header out of the words that hold it
 
+pub zeros-sized : Sized zeros
+zeros-sized = record { numbers = refl; signed = refl; l0 = refl; l1 = refl; marking = refl; w0 = refl; w1 = refl }
+
+-- zeros hold none
+pub header-from-zeros : headerFrom zeros ≡ noHeader
+unfolding headerFrom frameFrom orderCountFrom activeCountsFrom quantiserFrom filterFrom operationsFrom operationsIn atMost66 toOperations weightsFrom weightsIn atMost32 pad noHeader
+header-from-zeros = refl
+
 module _ (h : SliceHeader) (b : HeaderWords) (p : InOrder h) (z : Sized b) where
   abbrev held : HeaderWords
   held = headerIn h b
@@ -92,7 +104,7 @@ module _ (h : SliceHeader) (b : HeaderWords) (p : InOrder h) (z : Sized b) where
   unfolding numbersOf
   marking-in = simp (set-bit, operations-from-in (h .«dec_ref_pic_marking» .operations) (b .marking) (p .marking) (z .marking))
 
-  from-in : headerFrom (headerIn h b) ≡ h
+  pub from-in : headerFrom (headerIn h b) ≡ h
   unfolding headerFrom numbersOf
   from-in =
       λ i.
@@ -282,6 +294,14 @@ in-from-emptied w t z = let p = plain-says w (rw t tt) in back w p z (emptied w)
 
 -- ---- a prefix
 
+pub prefix-from-zeros : prefixFrom (prefixShort noPrefix) (replicate 198 0) ≡ noPrefix
+unfolding prefixFrom operationsFrom operationsIn atMost66 toOperations pad
+prefix-from-zeros = refl
+
+pub prefix-from : (p : Prefix) (b : List ℕ) → T (okOperations (p .«base_marking»)) → length b ≡ 198 → prefixFrom (prefixShort p) (sets b 0 (listWords (p .«base_marking»))) ≡ p
+unfolding prefixFrom
+prefix-from p b t e = rw (operations-from-in (p .«base_marking») b t e)
+
 pub prefix-from-in : (there : Bool) (p : Prefix) (b : List ℕ) → T (prefix there .good p) → length b ≡ 198 → prefixFrom (prefixShort p) (sets b 0 (listWords (p .«base_marking»))) ≡ p
-unfolding prefix prefixFrom
-prefix-from-in there p b g e = rw (operations-from-in (p .«base_marking») b (operationsIf-ok _ _ (p .«base_marking») (seq-first _ _ _ (seq-rest _ _ _ (shaped-from _ _ _ _ p g)))) e)
+unfolding prefix
+prefix-from-in there p b g = prefix-from p b (operationsIf-ok _ _ (p .«base_marking») (seq-first _ _ _ (seq-rest _ _ _ (shaped-from _ _ _ _ p g))))

@@ -34,8 +34,7 @@ use Rattle.short.specs.declared.slice.HeaderShort.{HeaderShort}
 use Rattle.short.specs.declared.slice.Lists.{Lists}
 use Rattle.short.specs.declared.slice.Marks.{Marks}
 use Rattle.header.proofs.Split.{parts-split}
-use Rattle.header.proofs.Counts.{counts-same}
-use Rattle.header.proofs.Cases.{ledAt}
+use Rattle.header.proofs.Counts.{ledAt, counts-same}
 
 module _ (n : UnitKind) (s : Bits) where
   -- what follows the first fields
@@ -49,10 +48,10 @@ module _ (n : UnitKind) (s : Bits) where
   header-parts t = simp (bind-bind, parts-split)
 
 module _ (t : Table) (n : UnitKind) (s : Bits) where
-  pub lead-no : {r : Refusal} → ledAt t n s 0 ≡ no r → readHeader t n s ≡ no r
+  pub lead-no : {r : Refusal} → ledAt t s 0 ≡ no r → readHeader t n s ≡ no r
   lead-no z = rw (header-parts n s t, z)
 
-  module _ {l : Led} {c : ℕ} (hl : ledAt t n s 0 ≡ got l c) where
+  module _ {l : Led} {c : ℕ} (hl : ledAt t s 0 ≡ got l c) where
     pub front-no : {r : Refusal} → frontAt (contextOf n l) (l .«slice_type») s c ≡ no r → readHeader t n s ≡ no r
     front-no z = rw (header-parts n s t, hl, z)
 

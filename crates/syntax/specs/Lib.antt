@@ -3,4 +3,5 @@ pub mod Lists
 pub mod Context
 pub mod SliceHeader
 pub mod Prefix
+pub mod Absent
 pub mod Sample

@@ -1,20 +1,14 @@
 -- Document 01's sample sets, both id 0, in a table of their own; and the record of its sample unit, `65 88 84 A0`.
 use mathlib.Core.Bool.{true, false}
 use lib.IntN.{pos}
-use lib.ListN.{replicate}
 use Rattle.table.specs.declared.sets.Picture.{Picture}
 use Rattle.table.specs.declared.sets.Sequence.{Sequence}
 use Rattle.table.specs.declared.table.Table.{Table}
 use Rattle.table.specs.Tables.{emptyTable, putSequence, putPicture}
 use Rattle.syntax.specs.declared.context.UnitKind.{UnitKind}
-use Rattle.syntax.specs.declared.marks.MarkedNumber.{MarkedNumber}
-use Rattle.syntax.specs.declared.marks.MarkedSigned.{MarkedSigned}
-use Rattle.syntax.specs.declared.marks.MarkedFlag.{MarkedFlag}
-use Rattle.syntax.specs.declared.record.Modification.{Modification}
-use Rattle.syntax.specs.declared.record.WeightList.{WeightList}
 use Rattle.syntax.specs.declared.record.SliceHeader.{SliceHeader}
 use Rattle.syntax.specs.Lists.{noOperations}
-use Rattle.syntax.specs.SliceHeader.{noWeight}
+use Rattle.syntax.specs.Absent.{noNumber, noFlag, noOrderCount, noActiveCounts, noModifications, noTable, noQuantiser, noFilter}
 
 -- 8 bit 4:2:0, frames only, order type 2
 abbrev pub sampleSequence : Sequence
@@ -56,23 +50,6 @@ sampleTable = putPicture (putSequence emptyTable 0 sampleSequence .table) 0 samp
 abbrev pub sampleKind : UnitKind
 sampleKind = record { reference = true; idr = true; mvc = false; svc = false }
 
--- ---- what is absent
-
-abbrev pub noNumber : MarkedNumber
-noNumber = record { there = false; value = 0 }
-
-abbrev pub noSigned : MarkedSigned
-noSigned = record { there = false; value = pos 0 }
-
-abbrev pub noFlag : MarkedFlag
-noFlag = record { there = false; value = false }
-
-abbrev pub noModification : Modification
-noModification = record { flag = noFlag; operations = noOperations }
-
-abbrev pub noWeights : WeightList
-noWeights = record { count = 0; entries = replicate 32 noWeight }
-
 -- ---- the record
 
 abbrev pub sampleHeader : SliceHeader
@@ -89,37 +66,16 @@ sampleHeader =
         «bottom_field_flag» = noFlag;
         «idr_pic_id» = record { there = true; value = 0 };
       };
-      «order_count» = record {
-        «pic_order_cnt_lsb» = noNumber;
-        «delta_pic_order_cnt_bottom» = noSigned;
-        «delta_pic_order_cnt» = record { there = false; first = pos 0; second = pos 0 };
-        «redundant_pic_cnt» = noNumber;
-      };
-      «active_counts» = record {
-        «direct_spatial_mv_pred_flag» = noFlag;
-        «num_ref_idx_active_override_flag» = noFlag;
-        «num_ref_idx_l0_active_minus1» = noNumber;
-        «num_ref_idx_l1_active_minus1» = noNumber;
-      };
-      modifications = record { l0 = noModification; l1 = noModification };
-      «pred_weight_table» = record {
-        there = false;
-        «luma_log2_weight_denom» = 0;
-        «chroma_log2_weight_denom» = noNumber;
-        l0 = noWeights;
-        l1 = noWeights;
-      };
+      «order_count» = noOrderCount;
+      «active_counts» = noActiveCounts;
+      modifications = noModifications;
+      «pred_weight_table» = noTable;
       «dec_ref_pic_marking» = record {
         «no_output_of_prior_pics_flag» = record { there = true; value = false };
         «long_term_reference_flag» = record { there = true; value = false };
         «adaptive_ref_pic_marking_mode_flag» = noFlag;
         operations = noOperations;
       };
-      quantiser = record { «cabac_init_idc» = noNumber; «slice_qp_delta» = pos 0; «sp_for_switch_flag» = noFlag; «slice_qs_delta» = noSigned };
-      filter = record {
-        «disable_deblocking_filter_idc» = noNumber;
-        «slice_alpha_c0_offset_div2» = noSigned;
-        «slice_beta_offset_div2» = noSigned;
-        «slice_group_change_cycle» = noNumber;
-      };
+      quantiser = noQuantiser;
+      filter = noFilter;
     }

@@ -11,6 +11,4 @@ pub mod Values
 pub mod LookShell
 pub mod PutShell
 pub mod WithShell
-pub mod ReadShell
-pub mod WalkShell
 pub mod WriteShell

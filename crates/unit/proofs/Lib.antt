@@ -1,5 +1,7 @@
 pub mod Opened
-pub mod Answers
 pub mod Cases
 pub mod Examples
 pub mod Rooms
+pub mod Held
+pub mod Tidy
+pub mod Whole

@@ -2,8 +2,7 @@
 use Rattle.bits.specs.Refusals.{Res, got, no}
 use Rattle.syntax.specs.declared.record.SliceHeader.{SliceHeader}
 use Rattle.syntax.specs.declared.record.Prefix.{Prefix}
-use Rattle.lists.specs.Absent.{noPrefix}
-use Rattle.reading.specs.Whole.{noHeader}
+use Rattle.syntax.specs.Absent.{noHeader, noPrefix}
 use Rattle.unit.specs.declared.answer.UnitAnswer.{UnitAnswer}
 use Rattle.unit.specs.declared.answer.UnitRead.{UnitRead}
 

@@ -1,3 +1,4 @@
 pub mod Answer
 pub mod Begin
 pub mod Unit
+pub mod Into

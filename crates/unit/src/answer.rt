@@ -1,16 +1,12 @@
-// What reading a unit answers.
+// What reading a unit answers, with its records.
+use crate::into::ShortAnswer;
 use bits::refusals::Refusal;
-use codes::step::End;
-use codes::step::why_end;
-use lists::prefix::PrefixRead;
-use lists::prefix::no_prefix;
-use reading::whole::HeaderRead;
-use reading::whole::no_header;
+use syntax::marks::MarkedFlag;
 use syntax::record::Prefix;
 use syntax::record::SliceHeader;
+use words::list_words::PrefixShort;
 ghost use mathlib.Core.Path.{_≡_};
-ghost use Rattle.codes.specs.Steps.{asEnd};
-ghost use Rattle.unit.specs.Answer.{only, sliceAnswer, prefixAnswer};
+ghost use Rattle.unit.specs.Into.{longAnswer, prefixIn};
 
 pub enum UnitAnswer {
     // a slice header, of so many bits
@@ -28,45 +24,31 @@ pub struct UnitRead {
     pub prefix: Prefix,
 }
 
-// An answer without a record.
-pub fn only(answer: UnitAnswer) -> UnitRead
-    ensures { λ r. ⌜ r ≡ only answer ⌝ }
+pub(crate) fn long_answer(a: ShortAnswer) -> UnitAnswer
+    ensures { λ r. ⌜ r ≡ longAnswer a ⌝ }
 {
-    UnitRead {
-        answer,
-        header: no_header(),
-        prefix: no_prefix(),
+    match a {
+        ShortAnswer::Slice(n) => UnitAnswer::Slice(n),
+        ShortAnswer::Prefix(_) => UnitAnswer::Prefix,
+        ShortAnswer::Other(id) => UnitAnswer::Other(id),
+        ShortAnswer::Refused(r) => UnitAnswer::Refused(r),
     }
 }
 
-// The answer of a slice.
-pub fn slice_answer(a: HeaderRead) -> UnitRead
-    ensures { λ r. ⌜ r ≡ sliceAnswer (asEnd (a .end) (a .header)) ⌝ }
+// The prefix that an answer holds, without its list; zero where there is none.
+pub(crate) fn prefix_in(a: ShortAnswer) -> PrefixShort
+    ensures { λ r. ⌜ r ≡ prefixIn a ⌝ }
 {
-    let end = a.end;
-    let End::At(c) = end else {
-        return only(UnitAnswer::Refused(why_end(end)));
-    };
-    let header = a.header;
-    UnitRead {
-        answer: UnitAnswer::Slice(c.at),
-        header,
-        prefix: no_prefix(),
+    if let ShortAnswer::Prefix(p) = a {
+        return p;
     }
-}
-
-// The answer of a prefix unit.
-pub fn prefix_answer(a: PrefixRead) -> UnitRead
-    ensures { λ r. ⌜ r ≡ prefixAnswer (asEnd (a .end) (a .body)) ⌝ }
-{
-    let end = a.end;
-    let End::At(_) = end else {
-        return only(UnitAnswer::Refused(why_end(end)));
+    let absent = MarkedFlag {
+        there: false,
+        value: false,
     };
-    let prefix = a.body;
-    UnitRead {
-        answer: UnitAnswer::Prefix,
-        header: no_header(),
-        prefix,
+    PrefixShort {
+        store_ref_base_pic_flag: absent,
+        base_markings: 0,
+        additional_prefix_nal_unit_extension_flag: absent,
     }
 }

@@ -1,4 +1,5 @@
-// Reading a whole unit: its first byte, its extension and its body, by the parameter table.
-pub mod answer; // what reading a unit answers
-pub mod begin; // the checks before the body
-pub mod unit; // the unit as a whole
+// A whole unit: what its first bytes say, then its body in scratch, then the header or the prefix that the body holds.
+pub mod begin; // what the first bytes say of the body
+pub mod into; // the unit, into lent words
+pub mod answer; // what reading a unit answers, with its records
+pub mod unit; // the unit, by value

@@ -2,7 +2,7 @@
 use mathlib.Core.Path.{_≡_}
 use mathlib.Core.List.{List}
 use Prim.Native.Nat.{ℕ}
-use Rattle.lent.specs.Lent.{shortAnswer, Lent, wordsAfter}
+use Rattle.unit.specs.Into.{shortAnswer, Lent, wordsAfter}
 use Rattle.walk.specs.declared.walk.WalkedShort.{WalkedShort}
 use Rattle.walk.specs.Walked.{WalkOut}
 

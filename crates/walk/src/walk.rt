@@ -5,12 +5,12 @@ use bits::refusals::LIMIT;
 use bits::refusals::Refusal;
 use bits::refusals::TOO_LARGE;
 use bits::refusals::refuse;
-use lent::whole::ShortAnswer;
-use lent::whole::read_unit_into;
+use unit::into::ShortAnswer;
+use unit::into::read_unit_into;
 ghost use mathlib.Core.Path.{_≡_};
 ghost use Rattle.header.specs.Lead.{tableOf};
 ghost use Rattle.walk.specs.Walked.{nextStep, walked};
-ghost use Rattle.lent.specs.Lent.{lentWords};
+ghost use Rattle.unit.specs.Into.{lentWords};
 ghost use Rattle.walk.specs.WalkedInto.{WalkedInto};
 
 // What the walk came to: a unit's place, its length and the place to go on from; the end; or refusal 27.

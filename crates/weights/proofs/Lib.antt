@@ -1,4 +1,3 @@
-pub mod Ends
 pub mod Filled
 pub mod Joined
 pub mod Tables

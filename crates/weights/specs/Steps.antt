@@ -5,15 +5,9 @@ use Rattle.bits.specs.Refusals.{Res, got, no}
 use Rattle.bits.specs.Answers.{none}
 use Rattle.bits.specs.declared.refusals.Refusal.{Refusal}
 use Rattle.syntax.specs.declared.record.Weight.{Weight}
-use Rattle.syntax.specs.declared.record.WeightList.{WeightList}
-use Rattle.syntax.specs.declared.record.PredWeightTable.{PredWeightTable}
-use Rattle.codes.specs.Steps.{beside}
-use Rattle.weights.specs.Counts.{noWeights, noTable}
 use Rattle.weights.specs.declared.weight.WeightStep.{WeightStep}
 use Rattle.weights.specs.declared.weight.LumaStep.{LumaStep}
 use Rattle.weights.specs.declared.weight.ChromaStep.{ChromaStep}
-use Rattle.weights.specs.declared.list.WeightListRead.{WeightListRead}
-use Rattle.weights.specs.declared.weights.PredWeightTableRead.{PredWeightTableRead}
 
 abbrev pub asWeight : WeightStep → Res Weight
 asWeight (WeightStep.Got w c) = got w (c .at)
@@ -22,14 +16,6 @@ asWeight (WeightStep.Refused r) = no r
 abbrev pub whyWeight : WeightStep → Refusal
 whyWeight (WeightStep.Got w c) = none
 whyWeight (WeightStep.Refused r) = r
-
--- a list and a table, each with the place where it ended
-
-abbrev pub weightListAnswer : Res WeightList → WeightListRead
-weightListAnswer = beside (λ a e. record { list = a; end = e }) noWeights
-
-abbrev pub tableAnswer : Res PredWeightTable → PredWeightTableRead
-tableAnswer = beside (λ a e. record { table = a; end = e }) noTable
 
 -- ---- private contracts: a half's answer as the nested pairs of its format
 

@@ -10,7 +10,7 @@ use codes::step::why_given;
 use syntax::record::Weight;
 ghost use mathlib.Core.Path.{_≡_};
 ghost use Rattle.bits.specs.Bits.{bitsOf};
-ghost use Rattle.syntax.specs.SliceHeader.{weight, noWeight};
+ghost use Rattle.syntax.specs.SliceHeader.{weight};
 ghost use Rattle.weights.specs.Steps.{asWeight, whyWeight, asLuma, whyLuma, asChroma, whyChroma};
 ghost use Rattle.weights.specs.Halves.{lumaHalf, chromaHalf};
 
@@ -165,20 +165,4 @@ pub fn weight(s: &[u8], c: Cursor, chroma: bool) -> WeightStep
         },
         c2,
     )
-}
-
-// What an unused entry of a list holds.
-pub(crate) fn no_weight() -> Weight
-    ensures { λ r. ⌜ r ≡ noWeight ⌝ }
-{
-    Weight {
-        luma_weight_flag: false,
-        luma_weight: 0,
-        luma_offset: 0,
-        chroma_weight_flag: false,
-        cb_weight: 0,
-        cb_offset: 0,
-        cr_weight: 0,
-        cr_offset: 0,
-    }
 }

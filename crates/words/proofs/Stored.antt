@@ -20,7 +20,7 @@ use Rattle.syntax.specs.declared.marks.MarkedNumber.{MarkedNumber}
 use Rattle.syntax.specs.declared.record.Weight.{Weight}
 use Rattle.syntax.specs.declared.record.WeightList.{WeightList}
 use Rattle.syntax.specs.declared.record.PredWeightTable.{PredWeightTable}
-use Rattle.weights.specs.Counts.{noWeights, noTable}
+use Rattle.syntax.specs.Absent.{noTable}
 use Rattle.words.specs.Leaves.{leaves, Written}
 use Rattle.words.specs.WeightsLent.{entryWords, weightWords, weightsLeft, weightsStep, listStep, whyList}
 use Rattle.words.specs.declared.weight_words.WeightsShort.{WeightsShort}
@@ -107,7 +107,7 @@ pub table-none : {m : Res PredWeightTable} (b0 b1 : List ℤ) {e : ℕ} → m �
     b1
     b0
     b1
-unfolding Written noTable noWeights weightWords flatMap
+unfolding Written weightWords flatMap
 table-none b0 b1 e = rw e (refl, (refl, refl))
 
 -- a table that is there, with its lists as the calls left them

@@ -1,6 +1,6 @@
 use mathlib.Core.Path.{ap}
 use borrow.Author.Needs.{needs}
-use Rattle.lent.specs.Lent.{Lent}
+use Rattle.unit.specs.Into.{Lent}
 use Rattle.listed.proofs.step.walk_on.Statement.{statement}
 use Rattle.listed.proofs.step.walk_on.Tie as tie
 

@@ -1,7 +1,7 @@
 use mathlib.Core.Path.{refl, sym, _∙_}
 use native.Mathlib.Omega.{arith}
 use Rattle.unit.specs.Answer.{only}
-use Rattle.lent.specs.Lent.{shortAnswer, wordsAfter}
+use Rattle.unit.specs.Into.{shortAnswer, wordsAfter}
 use Rattle.walk.specs.Walked.{nothing}
 use Rattle.walk.proofs.Chain.{Went, went}
 use Rattle.walk.proofs.Steps.{found-at, none-read, was-read}

@@ -1,0 +1,97 @@
+-- A unit read into lent words: each body's answer and what it leaves in the words, and the words cleared after a refusal.
+use Prim.Native.Nat.{ℕ}
+use mathlib.Core.Path.{_≡_, refl, ap, _∙_}
+use mathlib.Core.Bool.{Bool}
+use mathlib.Core.List.{List}
+use native.Mathlib.Omega.{arith}
+use lib.ListN.{replicate}
+use Rattle.bits.specs.Bits.{Bits}
+use Rattle.bits.specs.Refusals.{Res, got, no}
+use Rattle.bits.specs.declared.refusals.Refusal.{Refusal}
+use Rattle.table.specs.declared.table.Table.{Table}
+use Rattle.syntax.specs.declared.context.UnitKind.{UnitKind}
+use Rattle.syntax.specs.declared.record.SliceHeader.{SliceHeader}
+use Rattle.syntax.specs.declared.record.Prefix.{Prefix}
+use Rattle.syntax.specs.SliceHeader.{readHeader}
+use Rattle.syntax.specs.Prefix.{prefix}
+use Rattle.codes.specs.declared.step.End.{End}
+use Rattle.words.specs.declared.list_words.PrefixShort.{PrefixShort}
+use Rattle.words.specs.declared.list_words.PrefixStep.{PrefixStep}
+use Rattle.words.specs.Leaves.{leaves}
+use Rattle.words.specs.ListsLent.{prefixStep, prefixLeft}
+use Rattle.short.specs.Short.{HeaderWords, zeros, headerEnd, headerLeft}
+use Rattle.unit.specs.declared.answer.UnitAnswer.{UnitAnswer}
+use Rattle.unit.specs.declared.answer.UnitRead.{UnitRead}
+use Rattle.unit.specs.declared.into.ShortAnswer.{ShortAnswer}
+use Rattle.unit.specs.Answer.{only, sliceAnswer, prefixAnswer}
+use Rattle.unit.specs.Unit.{UnitOut, untouched, sliceBits, prefixBits}
+use Rattle.unit.specs.Into.{short, shortAnswer, Lent, after, wordsAfter, ReadInto, sliceShort, bodyShort, Held, Taken}
+
+-- ---- the body of a slice
+
+slice-held : (m : Res SliceHeader) (b : HeaderWords) {a : End} {w : HeaderWords} → a ≡ headerEnd m → w ≡ headerLeft m b → (base : List ℕ)
+    → (sliceShort a ≡ shortAnswer (sliceAnswer m)) × Held (sliceShort a) (sliceAnswer m) (record { header = b; base = base }) (record { header = w; base = base })
+unfolding headerEnd headerLeft shortAnswer wordsAfter only
+slice-held (got h e) b p q base = rw p (refl, rw q)
+slice-held (no r) b p q base = rw p (refl, tt)
+
+module _ {o : UnitOut} {left : List ℕ} where
+  pub slice-taken : (t : Table) (kind : UnitKind) (s : Bits) → o ≡ record { read = sliceBits t kind s; left = left } → (b : HeaderWords) {a : End} {r : ShortAnswer} {w : HeaderWords}
+      → a ≡ headerEnd (readHeader t kind s) → w ≡ headerLeft (readHeader t kind s) b → r ≡ sliceShort a
+      → (base : List ℕ) → Taken o r left (record { header = b; base = base }) (record { header = w; base = base })
+  unfolding sliceBits
+  slice-taken t kind s e b p q k base =
+      let h = slice-held (readHeader t kind s) b p q base in
+      rw (e, k) (record { answered = h .0; left = refl; held = h .1 })
+
+-- ---- the body of a prefix unit
+
+body-held : (m : Res Prefix) (b : List ℕ) {a : PrefixStep} {w : List ℕ} → a ≡ prefixStep m → w ≡ prefixLeft m → (h : HeaderWords)
+    → (bodyShort a ≡ shortAnswer (prefixAnswer m)) × Held (bodyShort a) (prefixAnswer m) (record { header = h; base = b }) (record { header = h; base = w })
+unfolding prefixStep leaves shortAnswer wordsAfter only
+body-held (got p e) b k q h = rw k (refl, rw q)
+body-held (no r) b k q h = rw k (refl, tt)
+
+module _ {o : UnitOut} {left : List ℕ} where
+  pub body-taken : (there : Bool) (s : Bits) → o ≡ record { read = prefixBits there s; left = left } → (b : List ℕ) {a : PrefixStep} {r : ShortAnswer} {w : List ℕ}
+      → a ≡ prefixStep (prefix there .read s 0) → w ≡ prefixLeft (prefix there .read s 0) → r ≡ bodyShort a
+      → (h : HeaderWords) → Taken o r left (record { header = h; base = b }) (record { header = h; base = w })
+  unfolding prefixBits
+  body-taken there s e b p q k h =
+      let l = body-held (prefix there .read s 0) b p q h in
+      rw (e, k) (record { answered = l .0; left = refl; held = l .1 })
+
+  -- ---- no body
+
+  pub other-taken : (t : ℕ) → o ≡ untouched (UnitAnswer.Other t) left → (w : Lent) → Taken o (ShortAnswer.Other t) left w w
+  unfolding shortAnswer wordsAfter only
+  other-taken t e w = rw e (record { answered = refl; left = refl; held = refl })
+
+  pub none-taken : (r : Refusal) → o ≡ untouched (UnitAnswer.Refused r) left → (b w : Lent) → Taken o (ShortAnswer.Refused r) left b w
+  unfolding shortAnswer only
+  none-taken r e b w = rw e (record { answered = refl; left = refl; held = tt })
+
+-- ---- what the public function says
+
+refused-words : (a : UnitAnswer) (u : UnitRead) {r : Refusal} → ShortAnswer.Refused r ≡ short a u → (b : Lent) → after a u b ≡ record { header = zeros; base = replicate 198 0 }
+refused-words (UnitAnswer.Slice n) u e b = let z : _≡_ {A = ℕ} 0 1 = cc in absurd (omega arith)
+refused-words UnitAnswer.«Prefix» u e b = let z : _≡_ {A = ℕ} 0 1 = cc in absurd (omega arith)
+refused-words (UnitAnswer.Other t) u e b = let z : _≡_ {A = ℕ} 0 1 = cc in absurd (omega arith)
+refused-words (UnitAnswer.Refused r) u e b = refl
+
+module _ {o : UnitOut} {a : ShortAnswer} {scratch : List ℕ} {b w : Lent} (t : Taken o a scratch b w) where
+  pub kept-slice : (n : ℕ) → a ≡ ShortAnswer.Slice n → ReadInto o (ShortAnswer.Slice n) scratch b w
+  kept-slice n e = let k = rw e at t in record { answered = k .answered; left = k .left; words = k .held }
+
+  pub kept-prefix : (p : PrefixShort) → a ≡ ShortAnswer.«Prefix» p → ReadInto o (ShortAnswer.«Prefix» p) scratch b w
+  kept-prefix p e = let k = rw e at t in record { answered = k .answered; left = k .left; words = k .held }
+
+  pub kept-other : (n : ℕ) → a ≡ ShortAnswer.Other n → ReadInto o (ShortAnswer.Other n) scratch b w
+  kept-other n e = let k = rw e at t in record { answered = k .answered; left = k .left; words = k .held }
+
+  pub cleared : (r : Refusal) → a ≡ ShortAnswer.Refused r → {h : HeaderWords} {l : List ℕ} → h ≡ zeros → l ≡ replicate 198 0
+      → ReadInto o (ShortAnswer.Refused r) scratch b (record { header = h; base = l })
+  unfolding shortAnswer wordsAfter
+  cleared r e p q =
+      let k = rw e at t in
+      record { answered = k .answered; left = k .left; words = rw (p, q, refused-words (o .read .answer) (o .read) (k .answered) b) }

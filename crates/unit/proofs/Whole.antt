@@ -1,0 +1,50 @@
+-- The records out of words that were zeros are those of the unit that was read into them.
+use Prim.Native.Nat.{ℕ}
+use mathlib.Core.Path.{_≡_, refl, sym, _∙_}
+use mathlib.Core.List.{List}
+use lib.ListN.{replicate}
+use Rattle.table.specs.declared.table.Table.{Table}
+use Rattle.short.specs.Short.{emptied, zeros}
+use Rattle.record.specs.Record.{headerFrom, prefixFrom}
+use Rattle.record.proofs.Whole.{zeros-sized, emptied-sized, header-from-zeros, from-in, prefix-from-zeros, prefix-from}
+use Rattle.unit.specs.declared.answer.UnitAnswer.{UnitAnswer}
+use Rattle.unit.specs.declared.answer.UnitRead.{UnitRead}
+use Rattle.unit.specs.Unit.{unitRead}
+use Rattle.unit.specs.Into.{short, shortAnswer, longAnswer, prefixIn, blank, after, wordsAfter}
+use Rattle.unit.proofs.Tidy.{Ordered, unit-ordered}
+
+-- the records, by the answer
+abbrev taken : UnitAnswer → UnitRead → UnitRead
+taken a u =
+    record {
+      answer = longAnswer (short a u);
+      header = headerFrom (after a u blank .header);
+      prefix = prefixFrom (prefixIn (short a u)) (after a u blank .base);
+    }
+
+same : (a : UnitAnswer) (u : UnitRead) → u .answer ≡ a → Ordered a u → taken a u ≡ u
+same (UnitAnswer.Slice n) u e o =
+    λ i.
+    record {
+      answer = sym e i;
+      header = from-in (u .header) (emptied zeros) (o .0) (emptied-sized zeros zeros-sized) i;
+      prefix = (prefix-from-zeros ∙ sym (o .1)) i;
+    }
+same UnitAnswer.«Prefix» u e o =
+    λ i. record { answer = sym e i; header = (header-from-zeros ∙ sym (o .0)) i; prefix = prefix-from (u .prefix) (replicate 198 0) (o .1) refl i }
+same (UnitAnswer.Other t) u e o = λ i. record { answer = sym e i; header = (header-from-zeros ∙ sym (o .0)) i; prefix = (prefix-from-zeros ∙ sym (o .1)) i }
+same (UnitAnswer.Refused r) u e o = λ i. record { answer = sym e i; header = (header-from-zeros ∙ sym (o .0)) i; prefix = (prefix-from-zeros ∙ sym (o .1)) i }
+
+module _ (t : Table) (unit scratch : List ℕ) where
+  abbrev read : UnitRead
+  read = unitRead t unit scratch .read
+
+  pub unit-from : _≡_ {A = UnitRead}
+      (record {
+        answer = longAnswer (shortAnswer read);
+        header = headerFrom (wordsAfter read blank .header);
+        prefix = prefixFrom (prefixIn (shortAnswer read)) (wordsAfter read blank .base);
+      })
+      read
+  unfolding shortAnswer wordsAfter
+  unit-from = same (read .answer) read refl (unit-ordered t unit scratch)

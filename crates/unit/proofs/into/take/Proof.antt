@@ -1,0 +1,70 @@
+use mathlib.Core.Path.{refl, sym, _∙_}
+use Rattle.unit.specs.Unit.{unitRead}
+use Rattle.unit.proofs.Cases.{begun-small}
+use Rattle.unit.proofs.Held.{other-taken, none-taken}
+use borrow.Author.Needs.{needs}
+use Rattle.unit.proofs.into.take.Statement.{statement}
+use Rattle.unit.proofs.into.take.Tie as tie
+
+begin-requires : tie.Need-begin-requires
+begin-requires c κs = search needs
+
+enum-known-kind : tie.Need-enum-known-kind
+enum-known-kind c = search needs
+
+slice-into-requires : tie.Need-slice-into-requires
+slice-into-requires c κs = begun-small _ _ (sym (c .before .before .before .before .before .before .before .before .before .kind .given .1) ∙ c .before .before .before .before .before .before .before .before .before .before .before .begin .ensures) refl
+
+enum-known-there : tie.Need-enum-known-there
+enum-known-there c = search needs
+
+body-into-requires : tie.Need-body-into-requires
+body-into-requires c κs = begun-small _ _ (sym (c .before .before .before .there .given .1) ∙ c .before .before .before .before .before .begin .ensures) refl
+
+enum-known-id : tie.Need-enum-known-id
+enum-known-id c = search needs
+
+enum-known-r : tie.Need-enum-known-r
+enum-known-r c = search needs
+
+same-length : tie.Need-same-length
+same-length c = search needs
+
+returns : tie.Need-returns
+unfolding unitRead
+returns c = rw (← c .before .before .before .before .before .before .before .before .before .before .before .before .before .before .begin .ensures, c .before .before .before .before .before .before .before .before .before .before .before .before .kind .given .1) (c .before .before .slice-into .ensures (c .before .before .before .before .before .before .before .before .before .before .before .before .before .before .before .before .before .args .base .now))
+
+same-length-2 : tie.Need-same-length-2
+same-length-2 c = search needs
+
+returns-2 : tie.Need-returns-2
+unfolding unitRead
+returns-2 c =
+    let a = c .before .before .before .before .before .before .before .before .before .before .before .args in
+    rw (← c .before .before .before .before .before .before .before .before .begin .ensures, c .before .before .before .before .before .before .there .given .1) (c .before .before .body-into .ensures (record { numbers = a .numbers .now; signed = a .signed .now; l0 = a .l0 .now; l1 = a .l1 .now; marking = a .marking .now; w0 = a .w0 .now; w1 = a .w1 .now }))
+
+returns-3 : tie.Need-returns-3
+unfolding unitRead
+returns-3 c = rw (← c .before .before .before .begin .ensures, c .before .id .given .1) (other-taken _ refl _)
+
+returns-4 : tie.Need-returns-4
+unfolding unitRead
+returns-4 c = rw (← c .before .before .before .begin .ensures, c .before .r .given .1) (none-taken _ refl _ _)
+
+pub take-spec : {M : Type 1} → statement M
+take-spec =
+    tie.close
+    (tie.spec
+    begin-requires
+    enum-known-kind
+    slice-into-requires
+    enum-known-there
+    body-into-requires
+    enum-known-id
+    enum-known-r
+    same-length
+    returns
+    same-length-2
+    returns-2
+    returns-3
+    returns-4)

@@ -1,0 +1,183 @@
+// A whole unit read into words that the caller lends: the answer holds neither fields nor lists of a header, so no record is copied on its way to the caller.
+use crate::begin::Begun;
+use crate::begin::begin;
+use bits::read::Cursor;
+use bits::refusals::Refusal;
+use codes::step::End;
+use escape::escape::Body;
+use escape::escape::unescape;
+use short::slice::clear_header;
+use short::slice::read_header_into;
+use syntax::context::UnitKind;
+use words::list_words::PrefixShort;
+use words::list_words::PrefixStep;
+use words::list_words::clear_list;
+use words::list_words::prefix_into;
+ghost use mathlib.Core.Path.{_≡_};
+ghost use mathlib.Core.List.{List};
+ghost use Prim.Native.Nat.{ℕ, _≤_};
+ghost use lib.ListN.{length};
+ghost use Rattle.bits.specs.Refusals.{limit};
+ghost use Rattle.header.specs.Lead.{tableOf};
+ghost use Rattle.unit.specs.Unit.{inBody, sliceBits, prefixBits, unitRead};
+ghost use Rattle.short.specs.Short.{HeaderWords, headerWords};
+ghost use Rattle.unit.specs.Into.{lentWords, sliceShort, bodyShort, Taken, ReadInto};
+
+pub enum ShortAnswer {
+    // a slice header, of so many bits, which stands in the words
+    Slice(usize),
+    Prefix(PrefixShort),
+    // a unit of another type
+    Other(u8),
+    Refused(Refusal),
+}
+
+fn slice_short(a: End) -> ShortAnswer
+    ensures { λ r. ⌜ r ≡ sliceShort a ⌝ }
+{
+    match a {
+        End::At(c) => ShortAnswer::Slice(c.at),
+        End::Refused(r) => ShortAnswer::Refused(r),
+    }
+}
+
+fn body_short(a: PrefixStep) -> ShortAnswer
+    ensures { λ r. ⌜ r ≡ bodyShort a ⌝ }
+{
+    match a {
+        PrefixStep::Got(p, _) => ShortAnswer::Prefix(p),
+        PrefixStep::Refused(r) => ShortAnswer::Refused(r),
+    }
+}
+
+// The body of a slice, which goes to scratch.
+fn slice_into<'a>(
+    sequences: &'a [u32; 224],
+    pictures: &'a [u32; 2048],
+    unit: &[u8],
+    scratch: &mut [u8],
+    kind: UnitKind,
+    from: usize,
+    numbers: &mut [u32; 57],
+    signed: &mut [i32; 7],
+    l0: &mut [u32; 198],
+    l1: &mut [u32; 198],
+    marking: &mut [u32; 198],
+    w0: &mut [i32; 256],
+    w1: &mut [i32; 256],
+) -> ShortAnswer
+    requires { ⌜ length (now unit) ≤ limit ⌝ }
+    ensures { λ r. ⌜ ((b : List ℕ) → Taken (inBody (sliceBits (tableOf (now (sequences .entry)) (now (pictures .entry))) kind) (now (unit .entry)) from (now (scratch .entry))) r (now (scratch .exit)) (record { header = headerWords numbers signed l0 l1 marking w0 w1 .entry; base = b }) (record { header = headerWords numbers signed l0 l1 marking w0 w1 .exit; base = b })) ⌝ }
+{
+    match unescape(unit, from, scratch) {
+        Body::Of(n) => slice_short(read_header_into(
+            &scratch[..n],
+            kind,
+            sequences,
+            pictures,
+            numbers,
+            signed,
+            l0,
+            l1,
+            marking,
+            w0,
+            w1,
+        )),
+        Body::Refused(r) => ShortAnswer::Refused(r),
+    }
+}
+
+// The body of a prefix unit, which goes to scratch.
+fn body_into(unit: &[u8], scratch: &mut [u8], there: bool, base: &mut [u32; 198]) -> ShortAnswer
+    requires { ⌜ length (now unit) ≤ limit ⌝ }
+    ensures { λ r. ⌜ ((h : HeaderWords) → Taken (inBody (prefixBits there) (now (unit .entry)) 4 (now (scratch .entry))) r (now (scratch .exit)) (record { header = h; base = now (base .entry) }) (record { header = h; base = now (base .exit) })) ⌝ }
+{
+    match unescape(unit, 4, scratch) {
+        Body::Of(n) => body_short(prefix_into(&scratch[..n], Cursor { at: 0 }, there, base)),
+        Body::Refused(r) => ShortAnswer::Refused(r),
+    }
+}
+
+// A unit; of the words beside a refusal nothing is said.
+fn take<'a>(
+    sequences: &'a [u32; 224],
+    pictures: &'a [u32; 2048],
+    unit: &[u8],
+    scratch: &mut [u8],
+    numbers: &mut [u32; 57],
+    signed: &mut [i32; 7],
+    l0: &mut [u32; 198],
+    l1: &mut [u32; 198],
+    marking: &mut [u32; 198],
+    w0: &mut [i32; 256],
+    w1: &mut [i32; 256],
+    base: &mut [u32; 198],
+) -> ShortAnswer
+    ensures { λ r. ⌜ Taken (unitRead (tableOf (now (sequences .entry)) (now (pictures .entry))) (now (unit .entry)) (now (scratch .entry))) r (now (scratch .exit)) (lentWords numbers signed l0 l1 marking w0 w1 base .entry) (lentWords numbers signed l0 l1 marking w0 w1 base .exit) ⌝ }
+{
+    match begin(unit) {
+        Begun::Slice(kind, from) => slice_into(
+            sequences,
+            pictures,
+            unit,
+            scratch,
+            kind,
+            from,
+            numbers,
+            signed,
+            l0,
+            l1,
+            marking,
+            w0,
+            w1,
+        ),
+        Begun::Prefix(there) => body_into(unit, scratch, there, base),
+        Begun::Other(id) => ShortAnswer::Other(id),
+        Begun::Refused(r) => ShortAnswer::Refused(r),
+    }
+}
+
+// A unit read by the sets in a table's two arrays. Until the body is known to fit, scratch is untouched; after that it starts with the body, whatever the answer. A
+// slice's header goes to the words of its fields and lists, over
+// zeros where the counts said that a list was, and a prefix unit's list to `base`, over zeros; all other words stay as they were. Beside a refusal all words are
+// zeros.
+pub fn read_unit_into<'a>(
+    sequences: &'a [u32; 224],
+    pictures: &'a [u32; 2048],
+    unit: &[u8],
+    scratch: &mut [u8],
+    numbers: &mut [u32; 57],
+    signed: &mut [i32; 7],
+    l0: &mut [u32; 198],
+    l1: &mut [u32; 198],
+    marking: &mut [u32; 198],
+    w0: &mut [i32; 256],
+    w1: &mut [i32; 256],
+    base: &mut [u32; 198],
+) -> ShortAnswer
+    ensures { λ r. ⌜ ReadInto (unitRead (tableOf (now (sequences .entry)) (now (pictures .entry))) (now (unit .entry)) (now (scratch .entry))) r (now (scratch .exit)) (lentWords numbers signed l0 l1 marking w0 w1 base .entry) (lentWords numbers signed l0 l1 marking w0 w1 base .exit) ⌝ }
+{
+    match take(
+        sequences,
+        pictures,
+        unit,
+        scratch,
+        numbers,
+        signed,
+        l0,
+        l1,
+        marking,
+        w0,
+        w1,
+        base,
+    ) {
+        ShortAnswer::Slice(n) => ShortAnswer::Slice(n),
+        ShortAnswer::Prefix(p) => ShortAnswer::Prefix(p),
+        ShortAnswer::Other(id) => ShortAnswer::Other(id),
+        ShortAnswer::Refused(r) => {
+            clear_header(numbers, signed, l0, l1, marking, w0, w1);
+            clear_list(base);
+            ShortAnswer::Refused(r)
+        }
+    }
+}
