@@ -1,9 +1,9 @@
 // The lines of a listing, for a host that walks by itself: each is written to the front of a lent buffer of 128 bytes, and the answer is its length.
 use crate::units::no_prefix;
 use bits::refusals::Refusal;
-use unit::into::ShortAnswer;
 use lines::line::end_line;
 use lines::line::unit_line;
+use unit::into::ShortAnswer;
 ghost use mathlib.Core.Path.{_≡_};
 ghost use Rattle.lines.specs.Lines.{lentLine, endLine, Written};
 ghost use Rattle.exports.specs.Listings.{heard};

@@ -1,8 +1,8 @@
 // Whole units.
 use bits::refusals::Refusal;
+use syntax::marks::MarkedFlag;
 use unit::into::ShortAnswer;
 use unit::into::read_unit_into;
-use syntax::marks::MarkedFlag;
 use words::list_words::PrefixShort;
 ghost use mathlib.Core.Path.{_≡_};
 ghost use Rattle.syntax.specs.Absent.{noPrefix};

@@ -1,8 +1,8 @@
 // One step of a listing: the walk's next unit as a line; or the last line, with the totals.
-use unit::into::ShortAnswer;
 use lines::line::end_line;
 use lines::line::too_long_line;
 use lines::line::unit_line;
+use unit::into::ShortAnswer;
 use walk::walk::Step;
 use walk::walk::walk_into;
 ghost use mathlib.Core.Path.{_≡_};
