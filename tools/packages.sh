@@ -2,8 +2,12 @@
 
 # The crates of rust/, and a compiler where there is none.
 rust_packages="librust-anyhow-dev librust-clap-complete-dev librust-clap-dev librust-console-dev librust-csv-dev librust-indicatif-dev librust-libc-dev librust-serde-derive-dev librust-serde-json-dev"
-cargo --version >/dev/null 2>&1 || rust_packages="$rust_packages cargo rustc"
+cargo --version >/dev/null 2>&1 || rust_packages="$rust_packages cargo rustc rust-clippy"
 command -v cc >/dev/null 2>&1 || rust_packages="$rust_packages gcc libc6-dev"
+# The module for Python, and what tests it.
+python_packages="librust-pyo3-dev python3 python3-dev python3-numpy"
+# What tests the manual page.
+manual_packages="groff-base"
 # The libraries of the oracle, the encoder that made the clips, and ffmpeg, for longer clips to tear.
 oracle_packages="librust-bitstream-io-dev librust-memchr-dev x264 ffmpeg"
 # The peers of the benchmark, and what compiles them.

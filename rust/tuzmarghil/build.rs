@@ -42,7 +42,8 @@ fn main() {
     fs::write(out.join("records.rs"), text + &fields + &layout).unwrap();
 
     let name = format!("lib{EXPORTS}.a");
-    fs::copy(archive(&root, &name), out.join(&name)).unwrap();
+    let archive = archive(&root, &name);
+    fs::copy(&archive, out.join(&name)).unwrap_or_else(|e| panic!("{}: {e}", archive.display()));
     println!("cargo:rustc-link-search=native={}", out.display());
     println!("cargo:rustc-link-lib=static={EXPORTS}");
 }

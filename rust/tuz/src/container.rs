@@ -9,7 +9,8 @@ const FFMPEG: &str = "ffmpeg -i FILE -map 0:v:0 -c:v copy -bsf:v h264_mp4toannex
 const PYTHON: &str = r#"python3 -c 'import sys; i, o = sys.stdin.buffer, sys.stdout.buffer; [o.write(b"\0\0\0\1" + i.read(int.from_bytes(n, "big"))) for n in iter(lambda: i.read(4), b"")]' < FILE > OUT.264"#;
 
 /// Names and the bytes that they have at a place.
-const MAGIC: [(&str, usize, &[u8]); 15] = [
+const MAGIC: [(&str, usize, &[u8]); 16] = [
+    ("a QuickTime (MOV) file", 4, b"ftypqt  "),
     ("an MP4 file", 4, b"ftyp"),
     ("an MP4 file", 4, b"styp"),
     ("an MP4 file", 4, b"moof"),

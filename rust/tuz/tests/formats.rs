@@ -164,3 +164,28 @@ fn names_steer_nothing() {
     assert!(!err(&case).contains('\u{1b}') && Path::new(word(&clip)).exists());
     fs::remove_file(clip).unwrap();
 }
+
+/// The manual page and the completions have every command and every option, and the version tells kit and layout.
+#[test]
+fn the_manual_has_every_option() {
+    let page = out(&tuz(&["manual"], &[])).replace("\\-", "-");
+    let shell = out(&tuz(&["completions", "bash"], &[]));
+    let help = out(&tuz(&["--help"], &[]));
+    let commands = help.split("Commands:\n").nth(1).unwrap();
+    let commands = commands.split("\n\n").next().unwrap();
+    let names: Vec<_> = (commands.lines().filter_map(|l| l.split_whitespace().next()))
+        .filter(|name| *name != "help")
+        .collect();
+    assert!(names.len() >= 8 && names.contains(&"qp"));
+    for name in names {
+        assert!(page.contains(&format!("\n.SS tuz {name}\n")), "{name}");
+        let help = out(&tuz(&["help", name], &[]));
+        let words = help.split(|c: char| !(c.is_alphanumeric() || c == '-'));
+        for option in words.filter(|w| w.starts_with("--") && w.len() > 2 && *w != "--help") {
+            assert!(page.contains(option) && shell.contains(option), "{option}");
+        }
+    }
+    let version = out(&tuz(&["--version"], &[]));
+    let layout = format!(", layout {})\n", tuzmarghil::LAYOUT);
+    assert!(version.starts_with("tuz 0.1.0 (") && version.ends_with(&layout));
+}

@@ -267,3 +267,27 @@ fn an_interrupt_leaves_whole_lines() {
         .lines()
         .all(|l| l.ends_with(" qp=26") || l.ends_with(" type=9")));
 }
+
+/// A long recording has a bar on a terminal where the lines go elsewhere; with -q there is none, and nothing else.
+#[test]
+fn quiet_has_no_bar() {
+    let clip = file("long.264", &CLIP);
+    let grown = File::options().write(true).open(&clip).unwrap();
+    grown.set_len(200 << 20).unwrap();
+    let seen = |words: &str| {
+        let program = env!("CARGO_BIN_EXE_tuz");
+        let line = format!(
+            "{program} list {} --sample {words} > /dev/null",
+            word(&clip)
+        );
+        let mut terminal = Command::new("script");
+        let done = terminal
+            .args(["-qec", &line, "/dev/null"])
+            .output()
+            .unwrap();
+        out(&done)
+    };
+    assert!(seen("").contains("MiB/s"), "{:?}", seen(""));
+    assert_eq!(seen("-q"), "");
+    fs::remove_file(clip).unwrap();
+}

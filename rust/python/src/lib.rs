@@ -1,0 +1,221 @@
+//! `import tuzmarghil`: the units of a recording as plain objects, and QP as an array.
+
+use ::tuzmarghil::{Stream, StreamReport, Table, Unit};
+use pyo3::exceptions::{PyOSError, PyValueError};
+use pyo3::prelude::*;
+use pyo3::types::PyBytes;
+use std::fs::File;
+use std::path::{Path, PathBuf};
+
+/// A unit of a recording. What it does not have is None.
+#[pyclass(frozen, module = "tuzmarghil")]
+#[derive(Default)]
+struct Report {
+    /// Where the unit begins, after its start code.
+    #[pyo3(get)]
+    place: u64,
+    /// How many bytes it has.
+    #[pyo3(get)]
+    length: u64,
+    /// 'slice', 'prefix', 'other' or 'refused'
+    #[pyo3(get)]
+    answer: &'static str,
+    #[pyo3(get)]
+    nal_unit_type: Option<u8>,
+    #[pyo3(get)]
+    nal_ref_idc: Option<u8>,
+    /// The number of a refusal, its value, and why in words.
+    #[pyo3(get)]
+    refusal: Option<u32>,
+    #[pyo3(get)]
+    value: Option<i64>,
+    #[pyo3(get)]
+    why: Option<String>,
+    #[pyo3(get)]
+    first_mb_in_slice: Option<u32>,
+    /// 0 to 9, and its letters P, B, I, SP or SI.
+    #[pyo3(get)]
+    slice_type: Option<u32>,
+    #[pyo3(get)]
+    family: Option<String>,
+    #[pyo3(get)]
+    pic_parameter_set_id: Option<u32>,
+    #[pyo3(get)]
+    frame_num: Option<u16>,
+    #[pyo3(get)]
+    slice_qp_delta: Option<i32>,
+    /// The header's length in bits.
+    #[pyo3(get)]
+    bits: Option<usize>,
+    /// The final QP: 26 + pic_init_qp_minus26 + slice_qp_delta.
+    #[pyo3(get)]
+    qp: Option<i64>,
+}
+
+#[pymethods]
+impl Report {
+    fn __repr__(&self) -> String {
+        let Report {
+            place,
+            length,
+            answer,
+            ..
+        } = self;
+        let more = match (self.qp, self.refusal) {
+            (Some(qp), _) => format!(" qp={qp}"),
+            (_, Some(number)) => format!(" refusal={number}"),
+            _ => String::new(),
+        };
+        format!("<tuzmarghil.Report place={place} length={length} {answer}{more}>")
+    }
+}
+
+fn report(table: &Table, r: &StreamReport<'_>) -> Report {
+    let (place, length) = (r.place, r.length);
+    let plain = Report {
+        place,
+        length,
+        ..Report::default()
+    };
+    match r.unit() {
+        Ok(Unit::Slice(slice)) => {
+            let header = &slice.header;
+            Report {
+                answer: "slice",
+                nal_unit_type: Some(slice.nal_header.nal_unit_type().id()),
+                nal_ref_idc: Some(slice.nal_header.nal_ref_idc()),
+                first_mb_in_slice: Some(header.first_mb_in_slice),
+                slice_type: Some(header.slice_type.id()),
+                family: Some(format!("{:?}", header.slice_type.family)),
+                pic_parameter_set_id: Some(header.pic_parameter_set_id),
+                frame_num: Some(header.frame_num),
+                slice_qp_delta: Some(header.slice_qp_delta),
+                bits: Some(slice.bits),
+                qp: slice.qp(table),
+                ..plain
+            }
+        }
+        Ok(Unit::Prefix(prefix)) => Report {
+            answer: "prefix",
+            nal_unit_type: Some(14),
+            nal_ref_idc: Some(prefix.nal_header.nal_ref_idc()),
+            ..plain
+        },
+        Ok(Unit::Other(kind)) => Report {
+            answer: "other",
+            nal_unit_type: Some(kind.id()),
+            ..plain
+        },
+        Ok(_) => Report {
+            answer: "other",
+            ..plain
+        },
+        Err(refusal) => Report {
+            answer: "refused",
+            refusal: Some(refusal.number),
+            value: Some(refusal.value),
+            why: Some(refusal.reason()),
+            ..plain
+        },
+    }
+}
+
+/// The reports of a recording, one after the other.
+#[pyclass(module = "tuzmarghil")]
+struct Reports {
+    stream: Stream<File>,
+    table: Table,
+    name: String,
+}
+
+impl Reports {
+    fn open(path: &Path, table: Option<&str>) -> PyResult<Reports> {
+        let name = path.display().to_string();
+        let file = File::open(path).map_err(|e| PyOSError::new_err(format!("{name}: {e}")))?;
+        Ok(Reports {
+            stream: Stream::new(file),
+            table: table_of(table)?,
+            name,
+        })
+    }
+
+    fn step<T>(
+        &mut self,
+        take: impl FnOnce(&Table, &StreamReport<'_>) -> T,
+    ) -> PyResult<Option<T>> {
+        let (table, name) = (&self.table, &self.name);
+        let step = self.stream.next(table);
+        let step = step.map_err(|e| PyOSError::new_err(format!("{name}: {e}")))?;
+        Ok(step.map(|r| take(table, &r)))
+    }
+}
+
+#[pymethods]
+impl Reports {
+    fn __iter__(slf: PyRef<'_, Self>) -> PyRef<'_, Self> {
+        slf
+    }
+
+    fn __next__(&mut self, py: Python<'_>) -> PyResult<Option<Report>> {
+        py.check_signals()?;
+        self.step(report)
+    }
+}
+
+/// Sets to try things with, as words.
+const SAMPLE: &str = "sps:0:1:0:0:4:2:0:0:1:99 pps:0:0:0:0:0:0:0:0:0:0:0:0:0";
+
+/// The sets in words of text.
+fn table_of(words: Option<&str>) -> PyResult<Table> {
+    let mut table = Table::new();
+    let lines = words
+        .unwrap_or("")
+        .lines()
+        .map(|l| l.split('#').next().unwrap_or(""));
+    for word in lines.flat_map(str::split_whitespace) {
+        let put = table.put_word(word);
+        put.map_err(|e| PyValueError::new_err(format!("{word:?}: {e}")))?;
+    }
+    Ok(table)
+}
+
+/// The units of a recording with start codes, as an iterator of plain objects. `table` is the text of its parameter sets, such as SAMPLE; without it slices are
+/// refused with 9.
+#[pyfunction]
+fn reports(path: PathBuf, table: Option<&str>) -> PyResult<Reports> {
+    Reports::open(&path, table)
+}
+
+/// The final QP of each slice, and NaN for each refused unit, in their order: an array.array of doubles, which numpy.asarray takes without a copy.
+#[pyfunction]
+fn qp(py: Python<'_>, path: PathBuf, table: Option<&str>) -> PyResult<PyObject> {
+    let mut all = Reports::open(&path, table)?;
+    let mut bytes = Vec::new();
+    let of = |table: &Table, r: &StreamReport<'_>| match r.unit() {
+        Ok(Unit::Slice(slice)) => Some(slice.qp(table).map_or(f64::NAN, |qp| qp as f64)),
+        Ok(_) => None,
+        Err(_) => Some(f64::NAN),
+    };
+    while let Some(point) = all.step(of)? {
+        if let Some(qp) = point {
+            bytes.extend_from_slice(&qp.to_ne_bytes());
+        }
+        if bytes.len() % (1 << 16) == 0 {
+            py.check_signals()?;
+        }
+    }
+    let array = py.import("array")?.getattr("array")?;
+    Ok(array.call1(("d", PyBytes::new(py, &bytes)))?.into())
+}
+
+/// H.264 slice headers, read by a proved library.
+#[pymodule]
+fn tuzmarghil(_: Python<'_>, module: &PyModule) -> PyResult<()> {
+    module.add("__version__", env!("CARGO_PKG_VERSION"))?;
+    module.add("LAYOUT", ::tuzmarghil::LAYOUT)?;
+    module.add("SAMPLE", SAMPLE)?;
+    module.add_class::<Report>()?;
+    module.add_class::<Reports>()?;
+    module.add_function(wrap_pyfunction!(reports, module)?)?;
+    module.add_function(wrap_pyfunction!(qp, module)?)
+}

@@ -1,0 +1,78 @@
+#!/usr/bin/python3
+"""The module `tuzmarghil` for Python says what the command says, unit by unit. Run by Debian's python3, with numpy.
+
+    PYTHONPATH=FOLDER tests/python.py [--port PROGRAM]
+"""
+import argparse
+import json
+import os
+import pathlib
+import subprocess
+import sys
+
+import numpy
+import tuzmarghil
+
+ROOT = pathlib.Path(__file__).resolve().parent.parent
+NAMES = "place length answer refusal value why nal_unit_type nal_ref_idc first_mb_in_slice slice_type family pic_parameter_set_id frame_num slice_qp_delta bits qp".split()
+
+
+def held(what, good):
+    if not good:
+        sys.exit(f"python: {what}")
+
+
+def told(port, clip, table):
+    """The command's objects. Of another unit it names the type alone, of a prefix unit not even that."""
+    words = [port, "headers", clip, "--table", table, "-q", "--format", "json"]
+    for line in subprocess.run(words, check=True, capture_output=True, text=True).stdout.splitlines():
+        unit = json.loads(line)
+        if unit["answer"] in ("other", "prefix"):
+            unit["nal_unit_type"] = unit.get("type", 14)
+        yield {name: unit.get(name) for name in NAMES}
+
+
+def compared(port, clip, table):
+    sets = table.read_text()
+    wanted = list(told(port, str(clip), str(table)))
+    found = [{name: getattr(r, name) for name in NAMES} for r in tuzmarghil.reports(clip, sets)]
+    held(f"{clip.name}: another unit", wanted == found and wanted)
+    qp = numpy.asarray(tuzmarghil.qp(str(clip), table=sets))
+    points = [numpy.nan if u["answer"] == "refused" else u["qp"] for u in wanted if u["answer"] in ("slice", "refused")]
+    held(f"{clip.name}: another QP", numpy.array_equal(qp, points, equal_nan=True) and qp.dtype == numpy.float64)
+    return len(wanted), int(numpy.isnan(qp).sum())
+
+
+def errors():
+    clip = ROOT / "demo/night.264"
+    for call, kind in [
+        (lambda: tuzmarghil.reports("/nowhere/clip.264"), OSError),
+        (lambda: tuzmarghil.qp("/nowhere/clip.264"), OSError),
+        (lambda: list(tuzmarghil.reports(ROOT)), OSError),
+        (lambda: tuzmarghil.reports(clip, "sps:0"), ValueError),
+        (lambda: tuzmarghil.reports(clip, "sps:0:1:0:0:17:2:0:0:1:99"), ValueError),
+    ]:
+        try:
+            call()
+        except kind:
+            continue
+        sys.exit(f"python: no {kind.__name__}")
+    unread = [r.refusal for r in tuzmarghil.reports(clip) if r.answer == "refused"]
+    held("without a table slices are not refused with 9", unread == [9] * 24)
+    held("the sample sets are not sets", next(tuzmarghil.reports(clip, tuzmarghil.SAMPLE)).answer == "other")
+    held("a report does not show itself", "place=4" in repr(next(tuzmarghil.reports(clip))))
+
+
+def main():
+    p = argparse.ArgumentParser(description=__doc__, formatter_class=argparse.RawDescriptionHelpFormatter)
+    p.add_argument("--port", default=os.environ.get("TUZ", str(ROOT / "rust/target/release/tuz")))
+    args = p.parse_args()
+    clips = [(ROOT / "demo/torn.264", ROOT / "demo/night.table")]
+    clips += [(clip, clip.with_suffix(".table")) for clip in sorted((ROOT / "tests/clips").glob("*.264"))]
+    counts = [compared(args.port, *clip) for clip in clips]
+    errors()
+    units, refused = (sum(n) for n in zip(*counts))
+    print(f"python: {units} units of {len(clips)} clips, {refused} of them refused, are as the command tells them")
+
+
+main()
