@@ -4,7 +4,6 @@
  */
 #include "tuzmarghil.h"
 
-#include <inttypes.h>
 #include <stdio.h>
 #include <stdlib.h>
 
@@ -20,27 +19,10 @@ static void put_sample(void) {
     abort();
 }
 
-static int64_t final_qp(void) {
-  tuz_PictureOut set;
-  tuz_picture_at(&set, &table, numbers[TUZ_PIC_PARAMETER_SET_ID]);
-  return 26 + (int64_t)set.picture.pic_init_qp_minus26 + signed_numbers[TUZ_SLICE_QP_DELTA];
-}
-
 static void tell(const tuz_WalkOut *step, const uint8_t *unit) {
-  printf("unit place=%zu length=%zu ", step->place, step->length);
-  switch (step->read.answer) {
-  case 0:
-    printf("other type=%" PRIu32 "\n", step->read.number);
-    break;
-  case 1:
-    printf("slice type=%" PRIu32 " frame=%" PRIu32 " qp=%" PRId64 "\n", numbers[TUZ_SLICE_TYPE], numbers[TUZ_FRAME_NUM], final_qp());
-    break;
-  case 2:
-    printf("prefix ext=%s\n", unit[1] & 0x80 ? "svc" : "mvc");
-    break;
-  default:
-    printf("refused %" PRIu32 " value=%" PRId64 "\n", step->read.number, step->read.value);
-  }
+  uint8_t line[128];
+  size_t end = tuz_unit_line(line, table.pictures, step->place, step->length, unit, step->length, step->read.answer, (uint8_t)step->read.number, step->read.value, numbers, signed_numbers);
+  fwrite(line, 1, end, stdout);
 }
 
 /* The whole file; nothing where it cannot be read. */
@@ -63,6 +45,8 @@ int main(int count, char **words) {
   uint8_t *scratch = malloc(length + 1);
   if (!recording || !scratch)
     return 2;
+  if (tuz_layout() != TUZ_LAYOUT)
+    return 2;
   put_sample();
   tuz_WalkOut step = {0};
   for (;; units++) {
@@ -72,6 +56,7 @@ int main(int count, char **words) {
     refused += step.read.answer == 3;
     tell(&step, recording + step.place);
   }
-  printf("end units=%zu refused=%zu\n", units, refused);
+  uint8_t line[128];
+  fwrite(line, 1, tuz_end_line(line, units, refused), stdout);
   return step.step == 2 ? 2 : 0;
 }

@@ -15,8 +15,8 @@
 extern "C" {
 #endif
 
-/* The number of this layout: that of the Rust crate (tuzmarghil::LAYOUT), and of the archive made from the same sources. */
-#define TUZ_LAYOUT 1
+/* The number of this layout: what tuz_layout() answers in an archive made from the same sources. */
+#define TUZ_LAYOUT 2
 
 typedef struct {
   uint32_t sequences[224];
@@ -70,6 +70,49 @@ typedef struct {
   int64_t value;
 } tuz_ChangedOut;
 
+/* A first byte. Beside a refusal the other fields are zero. */
+typedef struct {
+  /* the refusal's number and value; 0 and 0 where there is none */
+  uint32_t number;
+  uint8_t nal_ref_idc;
+  /* the number of nal_unit_type */
+  uint8_t nal_unit_type;
+  /* three bytes of extension follow: types 14, 20 and 21 */
+  bool has_extension;
+  int64_t value;
+} tuz_NalHeaderOut;
+
+/* nal_unit_header_svc_extension( ) */
+typedef struct {
+  bool idr_flag;
+  uint8_t priority_id;
+  bool no_inter_layer_pred_flag;
+  uint8_t dependency_id;
+  uint8_t quality_id;
+  uint8_t temporal_id;
+  bool use_ref_base_pic_flag;
+  bool discardable_flag;
+  bool output_flag;
+} tuz_SvcExtensionOut;
+
+/* nal_unit_header_mvc_extension( ) */
+typedef struct {
+  bool non_idr_flag;
+  uint8_t priority_id;
+  uint16_t view_id;
+  uint8_t temporal_id;
+  bool anchor_pic_flag;
+  bool inter_view_flag;
+} tuz_MvcExtensionOut;
+
+/* An extension's three bytes: which of the two they are, and the fields of both. */
+typedef struct {
+  /* svc_extension_flag, the first of their bits */
+  bool is_svc;
+  tuz_SvcExtensionOut svc;
+  tuz_MvcExtensionOut mvc;
+} tuz_ExtensionOut;
+
 typedef struct {
   bool there;
   bool value;
@@ -119,129 +162,6 @@ typedef struct {
   uint8_t b3;
 } tuz_ExtensionGiven;
 
-/* A field that may be absent: a mark, and zero where it is not there. */
-typedef struct {
-  bool there;
-  uint32_t value;
-} tuz_MarkedNumber;
-
-/* Where and how the picture is. */
-typedef struct {
-  tuz_MarkedNumber colour_plane_id;
-  uint32_t frame_num;
-  tuz_MarkedFlag field_pic_flag;
-  tuz_MarkedFlag bottom_field_flag;
-  tuz_MarkedNumber idr_pic_id;
-} tuz_Frame;
-
-typedef struct {
-  bool there;
-  int32_t value;
-} tuz_MarkedSigned;
-
-/* delta_pic_order_cnt[0] and [1]: there where the order count type is 1, both zero where the sequence set says so. */
-typedef struct {
-  bool there;
-  int32_t first;
-  int32_t second;
-} tuz_Deltas;
-
-typedef struct {
-  tuz_MarkedNumber pic_order_cnt_lsb;
-  tuz_MarkedSigned delta_pic_order_cnt_bottom;
-  tuz_Deltas delta_pic_order_cnt;
-  tuz_MarkedNumber redundant_pic_cnt;
-} tuz_OrderCount;
-
-typedef struct {
-  tuz_MarkedFlag direct_spatial_mv_pred_flag;
-  tuz_MarkedFlag num_ref_idx_active_override_flag;
-  tuz_MarkedNumber num_ref_idx_l0_active_minus1;
-  tuz_MarkedNumber num_ref_idx_l1_active_minus1;
-} tuz_ActiveCounts;
-
-/* Codes with up to two operands each, `count` of them, the closing code left out; unused entries are zero. */
-typedef struct {
-  uint32_t count;
-  uint32_t codes[66];
-  uint32_t first[66];
-  uint32_t second[66];
-} tuz_Operations;
-
-/* ref_pic_list_modification( ): a flag for each list, kept, since a flagged list may be empty. */
-typedef struct {
-  tuz_MarkedFlag flag;
-  tuz_Operations operations;
-} tuz_Modification;
-
-typedef struct {
-  tuz_Modification l0;
-  tuz_Modification l1;
-} tuz_Modifications;
-
-/* An entry of pred_weight_table( ). */
-typedef struct {
-  bool luma_weight_flag;
-  int32_t luma_weight;
-  int32_t luma_offset;
-  bool chroma_weight_flag;
-  int32_t cb_weight;
-  int32_t cb_offset;
-  int32_t cr_weight;
-  int32_t cr_offset;
-} tuz_Weight;
-
-/* One entry for each active reference, `count` of them; unused entries are zero. */
-typedef struct {
-  uint32_t count;
-  tuz_Weight entries[32];
-} tuz_WeightList;
-
-typedef struct {
-  bool there;
-  uint32_t luma_log2_weight_denom;
-  tuz_MarkedNumber chroma_log2_weight_denom;
-  tuz_WeightList l0;
-  tuz_WeightList l1;
-} tuz_PredWeightTable;
-
-/* dec_ref_pic_marking( ) */
-typedef struct {
-  tuz_MarkedFlag no_output_of_prior_pics_flag;
-  tuz_MarkedFlag long_term_reference_flag;
-  tuz_MarkedFlag adaptive_ref_pic_marking_mode_flag;
-  tuz_Operations operations;
-} tuz_DecRefPicMarking;
-
-typedef struct {
-  tuz_MarkedNumber cabac_init_idc;
-  int32_t slice_qp_delta;
-  tuz_MarkedFlag sp_for_switch_flag;
-  tuz_MarkedSigned slice_qs_delta;
-} tuz_Quantiser;
-
-typedef struct {
-  tuz_MarkedNumber disable_deblocking_filter_idc;
-  tuz_MarkedSigned slice_alpha_c0_offset_div2;
-  tuz_MarkedSigned slice_beta_offset_div2;
-  tuz_MarkedNumber slice_group_change_cycle;
-} tuz_Filter;
-
-typedef struct {
-  uint32_t first_mb_in_slice;
-  uint32_t slice_type;
-  uint32_t pic_parameter_set_id;
-  uint32_t seq_parameter_set_id;
-  tuz_Frame frame;
-  tuz_OrderCount order_count;
-  tuz_ActiveCounts active_counts;
-  tuz_Modifications modifications;
-  tuz_PredWeightTable pred_weight_table;
-  tuz_DecRefPicMarking dec_ref_pic_marking;
-  tuz_Quantiser quantiser;
-  tuz_Filter filter;
-} tuz_SliceHeader;
-
 /* What writing a header answers: its length in bits, or document 01's refusal. What the answer does not speak of is zero. */
 typedef struct {
   uint32_t number;
@@ -256,27 +176,15 @@ _Static_assert(sizeof(tuz_SequenceOut) == 36, "tuz_SequenceOut");
 _Static_assert(sizeof(tuz_Picture) == 40, "tuz_Picture");
 _Static_assert(sizeof(tuz_PictureOut) == 44, "tuz_PictureOut");
 _Static_assert(sizeof(tuz_ChangedOut) == 16, "tuz_ChangedOut");
+_Static_assert(sizeof(tuz_NalHeaderOut) == 16, "tuz_NalHeaderOut");
+_Static_assert(sizeof(tuz_SvcExtensionOut) == 9, "tuz_SvcExtensionOut");
+_Static_assert(sizeof(tuz_MvcExtensionOut) == 8, "tuz_MvcExtensionOut");
+_Static_assert(sizeof(tuz_ExtensionOut) == 18, "tuz_ExtensionOut");
 _Static_assert(sizeof(tuz_MarkedFlag) == 2, "tuz_MarkedFlag");
 _Static_assert(sizeof(tuz_PrefixShort) == 12, "tuz_PrefixShort");
 _Static_assert(sizeof(tuz_ReadOut) == 40, "tuz_ReadOut");
 _Static_assert(sizeof(tuz_WalkOut) == 80, "tuz_WalkOut");
 _Static_assert(sizeof(tuz_ExtensionGiven) == 4, "tuz_ExtensionGiven");
-_Static_assert(sizeof(tuz_MarkedNumber) == 8, "tuz_MarkedNumber");
-_Static_assert(sizeof(tuz_Frame) == 24, "tuz_Frame");
-_Static_assert(sizeof(tuz_MarkedSigned) == 8, "tuz_MarkedSigned");
-_Static_assert(sizeof(tuz_Deltas) == 12, "tuz_Deltas");
-_Static_assert(sizeof(tuz_OrderCount) == 36, "tuz_OrderCount");
-_Static_assert(sizeof(tuz_ActiveCounts) == 20, "tuz_ActiveCounts");
-_Static_assert(sizeof(tuz_Operations) == 796, "tuz_Operations");
-_Static_assert(sizeof(tuz_Modification) == 800, "tuz_Modification");
-_Static_assert(sizeof(tuz_Modifications) == 1600, "tuz_Modifications");
-_Static_assert(sizeof(tuz_Weight) == 32, "tuz_Weight");
-_Static_assert(sizeof(tuz_WeightList) == 1028, "tuz_WeightList");
-_Static_assert(sizeof(tuz_PredWeightTable) == 2072, "tuz_PredWeightTable");
-_Static_assert(sizeof(tuz_DecRefPicMarking) == 804, "tuz_DecRefPicMarking");
-_Static_assert(sizeof(tuz_Quantiser) == 24, "tuz_Quantiser");
-_Static_assert(sizeof(tuz_Filter) == 32, "tuz_Filter");
-_Static_assert(sizeof(tuz_SliceHeader) == 4628, "tuz_SliceHeader");
 _Static_assert(sizeof(tuz_WroteOut) == 24, "tuz_WroteOut");
 #endif
 
@@ -352,6 +260,20 @@ enum tuz_signed {
   TUZ_SIGNED = 7
 };
 
+uint32_t tuz_layout(void);
+
+/* A unit's line: its place and length in the recording, its bytes, which only a prefix unit's line looks at, `answer`, `number` and `value` of its ReadOut, and the words of a slice's fields. */
+size_t tuz_unit_line(uint8_t line[128], const uint32_t pictures[2048], size_t place, size_t length, const uint8_t *unit, size_t unit_len, uint32_t answer, uint8_t number, int64_t value, const uint32_t numbers[57], const int32_t signed_numbers[7]);
+
+/* The last line: how many units there were, and how many of them were refused. */
+size_t tuz_end_line(uint8_t line[128], size_t units, size_t refused);
+
+/* QP, by the table's array of picture sets, the id of one and slice_qp_delta. A set that the table does not have counts as zeros. */
+int64_t tuz_final_qp(const uint32_t pictures[2048], uint32_t id, int32_t delta);
+
+/* QS, by slice_qs_delta. */
+int64_t tuz_final_qs(const uint32_t pictures[2048], uint32_t id, int32_t delta);
+
 /* The sequence set with an id, out of a lent table. */
 void tuz_sequence_at(tuz_SequenceOut *result, const tuz_Table *t, uint32_t id);
 
@@ -364,14 +286,23 @@ tuz_ChangedOut tuz_put_sequence(tuz_Table *t, uint32_t id, tuz_Sequence s);
 /* Puts a picture set at an id of a lent table. */
 tuz_ChangedOut tuz_put_picture(tuz_Table *t, uint32_t id, tuz_Picture p);
 
-/* A unit read by the sets in a table's two arrays. Scratch needs as many bytes as the unit has. A slice's header goes to `numbers` and `signed` (fields) and to l0, l1, marking, w0 and w1 (lists), a prefix unit's list to `base`; all other words stay as they were. Beside a refusal all words are zeros. */
+/* A unit's first byte. */
+tuz_NalHeaderOut tuz_nal_header(uint8_t first);
+
+/* What a number says as a nal_unit_type. 0: nothing, since it is over 31; 1: a type that has a name; 2: an unspecified one; 3: a reserved one. */
+uint32_t tuz_unit_type(uint8_t id);
+
+/* The three bytes of an extension. */
+void tuz_extension(tuz_ExtensionOut *result, uint8_t b1, uint8_t b2, uint8_t b3);
+
+/* A unit read by the sets in a table's two arrays. Scratch needs as many bytes as the unit has. A slice's header goes to `numbers` and `signed` (fields) and to l0, l1, marking, w0 and w1 (lists), a prefix unit's list to `base`; all other words stay as they were, so words that were zeros behind their counts stay so. Beside a refusal all words are zeros. */
 void tuz_read_unit(tuz_ReadOut *result, const uint32_t sequences[224], const uint32_t pictures[2048], const uint8_t *unit, size_t unit_len, uint8_t *scratch, size_t scratch_len, uint32_t numbers[57], int32_t signed_numbers[7], uint32_t l0[198], uint32_t l1[198], uint32_t marking[198], int32_t w0[256], int32_t w1[256], uint32_t base[198]);
 
 /* One step of the walk from a place on, by the sets in a table's two arrays. Scratch needs as many bytes as the longest unit has. Words are written as by `tuz_read_unit`; where there is no unit, none is. */
 void tuz_walk(tuz_WalkOut *result, const uint32_t sequences[224], const uint32_t pictures[2048], const uint8_t *recording, size_t recording_len, size_t from, uint8_t *scratch, size_t scratch_len, uint32_t numbers[57], int32_t signed_numbers[7], uint32_t l0[198], uint32_t l1[198], uint32_t marking[198], int32_t w0[256], int32_t w1[256], uint32_t base[198]);
 
-/* A header written by the sets in a table's two arrays, for the unit that the first byte and the extension tell of. A refusal leaves the buffer as it was. */
-void tuz_write_header(tuz_WroteOut *result, const uint32_t sequences[224], const uint32_t pictures[2048], uint8_t first, tuz_ExtensionGiven extension, tuz_SliceHeader header, uint8_t *out, size_t out_len);
+/* The header that words hold, as `tuz_read_unit` lays them down, written by the sets in a table's two arrays, for the unit that the first byte and the extension tell of. A refusal leaves the buffer as it was. Words behind a list's count are not looked at. */
+void tuz_write_header(tuz_WroteOut *result, const uint32_t sequences[224], const uint32_t pictures[2048], uint8_t first, tuz_ExtensionGiven extension, const uint32_t numbers[57], const int32_t signed_numbers[7], const uint32_t l0[198], const uint32_t l1[198], const uint32_t marking[198], const int32_t w0[256], const int32_t w1[256], uint8_t *out, size_t out_len);
 
 #ifdef __cplusplus
 }

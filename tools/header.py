@@ -11,7 +11,7 @@ import sys
 
 ROOT = pathlib.Path(__file__).resolve().parent.parent
 FILE = ROOT / "include/tuzmarghil.h"
-SCALARS = {"u8": ("uint8_t", 1), "u32": ("uint32_t", 4), "i32": ("int32_t", 4), "i64": ("int64_t", 8), "usize": ("size_t", 8), "bool": ("bool", 1)}
+SCALARS = {"u8": ("uint8_t", 1), "u16": ("uint16_t", 2), "u32": ("uint32_t", 4), "i32": ("int32_t", 4), "i64": ("int64_t", 8), "usize": ("size_t", 8), "bool": ("bool", 1)}
 BENCH = "tuz_ue_run"  # for the benchmark alone
 
 FRONT = """\
@@ -32,7 +32,7 @@ FRONT = """\
 extern "C" {
 #endif
 
-/* The number of this layout: that of the Rust crate (tuzmarghil::LAYOUT), and of the archive made from the same sources. */
+/* The number of this layout: what tuz_layout() answers in an archive made from the same sources. */
 #define TUZ_LAYOUT %s
 """
 BACK = """
@@ -162,10 +162,10 @@ def functions(records):
                     records.needed(base, found)
             records.needed(result, found)
             words = [argument(records, *a) for a in arguments]
-            back = f"tuz_{result}"
+            back = records.c(result)
             if records.size(result)[0] > 16:
                 words, back = [f"tuz_{result} *result", *words], "void"
-            text += f"\n{comment(told)}{back} {name}({', '.join(words)});\n"
+            text += f"\n{comment(told)}{back} {name}({', '.join(words) or 'void'});\n"
     return found, text
 
 
@@ -181,7 +181,7 @@ def places(records):
 
 def header():
     records = Records()
-    layout = re.search(r"pub const LAYOUT: u32 = (\d+);", (ROOT / "rust/tuzmarghil/src/lib.rs").read_text())[1]
+    layout = re.search(r"const LAYOUT: u32 = (\d+);", (ROOT / "crates/exports/src/layout.rt").read_text())[1]
     found, text = functions(records)
     return FRONT % layout + "".join(map(records.text, found)) + records.sizes(found) + places(records) + text + BACK
 

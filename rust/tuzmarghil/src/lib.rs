@@ -80,8 +80,9 @@ struct Readme;
 #[doc = include_str!("../../../docs/MIGRATION.md")]
 struct Migration;
 
-/// The number of the layout in which records and words cross the boundary to the proved library; `include/tuzmarghil.h` has the same.
-pub const LAYOUT: u32 = 1;
+/// The number of the layout in which records and words cross the boundary to the proved library, which is asked for it before anything else;
+/// `include/tuzmarghil.h` has the same.
+pub const LAYOUT: u32 = raw::LAYOUT;
 
 /// The greatest length of a unit or a recording that one call takes, in bytes; beyond it the answer is refusal 27.
 pub const LIMIT: usize = 268_435_456;
