@@ -4,7 +4,8 @@ use writer::write::HeaderWrote;
 use writer::write::write_words_in;
 ghost use mathlib.Core.Path.{_≡_};
 ghost use Rattle.header.specs.Lead.{tableOf};
-ghost use Rattle.writer.specs.Write.{headerWords, writeWords};
+ghost use Rattle.short.specs.Short.{headerWords};
+ghost use Rattle.writer.specs.Write.{writeWords};
 ghost use Rattle.exports.specs.Writes.{wroteOut};
 
 // What writing a header answers: its length in bits, or document 01's refusal. What the answer does not speak of is zero.
@@ -49,7 +50,7 @@ pub extern "C" fn tuz_write_header<'a>(
     w1: &[i32; 256],
     out: &mut [u8],
 ) -> WroteOut
-    ensures { λ r. ⌜ (r ≡ wroteOut (writeWords (tableOf (now (sequences .entry)) (now (pictures .entry))) first extension (headerWords (now (numbers .entry)) (now (signed .entry)) (now (l0 .entry)) (now (l1 .entry)) (now (marking .entry)) (now (w0 .entry)) (now (w1 .entry))) (now (out .entry)) .answer)) × (now (out .exit) ≡ writeWords (tableOf (now (sequences .entry)) (now (pictures .entry))) first extension (headerWords (now (numbers .entry)) (now (signed .entry)) (now (l0 .entry)) (now (l1 .entry)) (now (marking .entry)) (now (w0 .entry)) (now (w1 .entry))) (now (out .entry)) .left) ⌝ }
+    ensures { λ r. ⌜ (r ≡ wroteOut (writeWords (tableOf (now (sequences .entry)) (now (pictures .entry))) first extension (headerWords numbers signed l0 l1 marking w0 w1 .entry) (now (out .entry)) .answer)) × (now (out .exit) ≡ writeWords (tableOf (now (sequences .entry)) (now (pictures .entry))) first extension (headerWords numbers signed l0 l1 marking w0 w1 .entry) (now (out .entry)) .left) ⌝ }
 {
     wrote_out(write_words_in(
         sequences,

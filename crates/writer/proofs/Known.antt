@@ -2,7 +2,7 @@
 use Prim.Native.Nat.{ℕ, _+_, _*_, _≤_, _<_}
 use mathlib.Core.Path.{_≡_, refl, sym, ap, ap₂, subst, subst⁻¹, _∙_}
 use mathlib.Core.List.{List, _++_}
-use mathlib.Core.Bool.{Bool, true, false, _&&_, and-assoc, and-false}
+use mathlib.Core.Bool.{Bool, true, false, _&&_, and-assoc}
 use native.Mathlib.Omega.{arith}
 use native.Mathlib.Nat.{zero-add}
 use lib.Dec.{T, leb, eqb}
@@ -17,7 +17,6 @@ use Rattle.fmt.specs.Fmt.{seq, shaped, test}
 use Rattle.fmt.specs.Leaves.{ue}
 use Rattle.fmt.proofs.Lawful.{both-0, T-true}
 use Rattle.fmt.proofs.Sizes.{Short, ue-short}
-use Rattle.fmt.proofs.Puts.{Done, Stopped}
 use Rattle.table.specs.declared.sets.Picture.{Picture}
 use Rattle.table.specs.declared.sets.Sequence.{Sequence}
 use Rattle.table.specs.declared.table.Table.{Table}
@@ -36,7 +35,9 @@ use Rattle.short.specs.Short.{HeaderWords}
 use Rattle.record.specs.Record.{headerFrom, plainNumbers, plain}
 use Rattle.writer.specs.declared.sets.SetsFor.{SetsFor}
 use Rattle.writer.specs.Write.{withPicture, withSequence, setsFor, HeaderOut, untouched, outOf, bitsOut}
-use Rattle.writer.specs.Stages.{fields, isKnown, knownOut, copied}
+use Rattle.writer.specs.Places.{nowhere, PutTo}
+use Rattle.writer.specs.Stages.{fields, fieldsOut, isKnown, knownOut, copied}
+use Rattle.writer.proofs.Stages.{done-at, stopped-at}
 use Rattle.writer.proofs.Passed.{picture-is, sequence-id}
 use Rattle.writer.proofs.Room.{room-bits}
 use Rattle.writer.proofs.Copies.{copied-written}
@@ -111,21 +112,28 @@ module _ (t : Table) (n : UnitKind) (w : HeaderWords) (out : List ℕ) (p : Pict
   unfolding knownOut bitsOut
   known-out = ap₂ (λ (g : Bool) (l : Bits). outOf (written (plain w && g) l out 0)) (sym good-known) (sym bits-known)
 
--- ---- in the stages' buffer
-
-fields-short : (x : Context) → Short (fields x) 43199
-fields-short x = then (then ue-short (λ m. then sliceType-short (λ k. ue-short))) (λ l. parts-short x _)
+-- ---- words
 
 module _ (x : Context) (w : HeaderWords) where
   abbrev r : SliceHeader
   r = headerFrom w
 
-  abbrev l : Bits
-  l = fields x .bits (ofHeader r)
-
   -- words hold a record, and its seq_parameter_set_id is the picture set's
   abbrev pub fitting : Bool
   fitting = plain w && eqb (r .«seq_parameter_set_id») (x .picture .«seq_parameter_set_id»)
+
+  known-is : (out : List ℕ) → knownOut x w out ≡ outOf (written (fitting && fields x .good (ofHeader r)) (fields x .bits (ofHeader r)) out 0)
+  unfolding knownOut
+  known-is out =
+      ap (λ (g : Bool). outOf (written g (fields x .bits (ofHeader r)) out 0)) (sym (and-assoc (plain w) _ (fields x .good (ofHeader r))))
+
+  pub known-other : (out : List ℕ) → fitting ≡ false → knownOut x w out ≡ untouched (refusal noBits (pos 0) 0) out
+  unfolding written
+  known-other out q = known-is out ∙ rw q
+
+  pub known-fields : (out : List ℕ) → fitting ≡ true → knownOut x w out ≡ fieldsOut x r out
+  unfolding fieldsOut
+  known-fields out q = known-is out ∙ rw q
 
   pub fitting-numbers : fitting ≡ true → plainNumbers (w .numbers) ≡ true
   unfolding plain
@@ -133,44 +141,42 @@ module _ (x : Context) (w : HeaderWords) where
       let t = both-0 (plain w) (eqb (r .«seq_parameter_set_id») (x .picture .«seq_parameter_set_id»)) (subst⁻¹ T e tt) in
       T-true (plainNumbers (w .numbers)) (both-0 (plainNumbers (w .numbers)) _ t)
 
-  known-is : (out : List ℕ) → knownOut x w out ≡ outOf (written (fitting && fields x .good (ofHeader r)) l out 0)
-  unfolding knownOut
-  known-is out = ap (λ (g : Bool). outOf (written g l out 0)) (sym (and-assoc (plain w) _ (fields x .good (ofHeader r))))
+-- ---- in the stages' buffer
 
-  most : T (fields x .good (ofHeader r)) → length l ≤ 8 * 6144
-  most g = omega (arith, fields-short x .most (ofHeader r) g)
+fields-short : (x : Context) → Short (fields x) 43199
+fields-short x = then (then ue-short (λ m. then sliceType-short (λ k. ue-short))) (λ l. parts-short x _)
 
-  -- 25 at once
-  pub known-other : (out : List ℕ) → fitting ≡ false → knownOut x w out ≡ untouched (refusal noBits (pos 0) 0) out
-  unfolding written
-  known-other out q = known-is out ∙ rw q
+module _ (x : Context) (h : SliceHeader) (d : List ℕ) where
+  abbrev l : Bits
+  l = fields x .bits (ofHeader h)
 
-  module _ (d : List ℕ) (len : length d ≡ 6144) where
-    room : T (fields x .good (ofHeader r)) → length l ≤ length (bitsOf d)
-    room g = let m = most g in room-bits d (length l) m (omega (arith, len))
+  most : T (fields x .good (ofHeader h)) → length l ≤ 8 * 6144
+  most g = omega (arith, fields-short x .most (ofHeader h) g)
 
-    -- 25: a part was refused, which was not for want of room
-    pub known-stopped : (out : List ℕ) → Stopped (fields x) (ofHeader r) d 0 → knownOut x w out ≡ untouched (refusal noBits (pos 0) 0) out
-    unfolding written
-    known-stopped out y =
-        known-is out
-        ∙ cases (fields x .good (ofHeader r))
-        (λ g.
-        let t : T (fields x .good (ofHeader r)) = rw g tt in
-        absurd (omega (arith, y .no-room t, room t, zero-add (length l))))
-        (λ g. rw (g, and-false fitting))
+  -- 25: a part led nowhere, which was not for want of room
+  pub fields-nowhere : (out : List ℕ) → length d ≡ 6144 → {d' : List ℕ} (c : Cursor) → nowhere ≤ c .at → PutTo (fields x) (ofHeader h) d 0 d' c
+      → fieldsOut x h out ≡ untouched (refusal noBits (pos 0) 0) out
+  unfolding fieldsOut written
+  fields-nowhere out len c n p =
+      cases (fields x .good (ofHeader h))
+      (λ g.
+      let t : T (fields x .good (ofHeader h)) = rw g tt in
+      let m = most t in
+      absurd (omega (arith, stopped-at c n p .no-room t, room-bits d (length l) m (omega (arith, len)), zero-add (length l))))
+      (λ g. rw g)
 
-    module _ {d' : List ℕ} {c : Cursor} (y : Done (fields x) (ofHeader r) d 0 d' c) where
-      at-is : c .at ≡ length l
-      at-is = y .place ∙ zero-add (length l)
+  module _ {d' : List ℕ} (c : Cursor) (n : c .at < nowhere) (p : PutTo (fields x) (ofHeader h) d 0 d' c) where
+    at-is : c .at ≡ length l
+    at-is = done-at c n p .place ∙ zero-add (length l)
 
-      pub done-most : c .at ≤ 8 * 6144
-      done-most = rw at-is (most (y .is-good))
+    pub fields-most : c .at ≤ 8 * 6144
+    fields-most = rw at-is (most (done-at c n p .is-good))
 
-      -- all parts were written: their bytes go out
-      pub known-done : (out : List ℕ) → fitting ≡ true → copied d' (c .at) out ≡ knownOut x w out
-      known-done out q =
-          (λ i. copied (y .now-is i) (at-is i) out)
-          ∙ copied-written d l out (most (y .is-good)) (omega (arith, len, most (y .is-good)))
-          ∙ ap (λ (g : Bool). outOf (written g l out 0)) (sym (rw (q, T-true (fields x .good (ofHeader r)) (y .is-good))))
-          ∙ sym (known-is out)
+    -- all parts were written: their bytes go out
+    pub fields-done : (out : List ℕ) → c .at ≤ 8 * length d → copied d' (c .at) out ≡ fieldsOut x h out
+    unfolding fieldsOut
+    fields-done out q =
+        let w = done-at c n p in
+        (λ i. copied (w .now-is i) (at-is i) out)
+        ∙ copied-written d l out (most (w .is-good)) (omega (arith, at-is))
+        ∙ ap (λ (g : Bool). outOf (written g l out 0)) (sym (T-true (fields x .good (ofHeader h)) (w .is-good)))

@@ -13,3 +13,4 @@ pub mod Known
 pub mod Units
 pub mod RoundTrip
 pub mod Refusing
+pub mod Boundary

@@ -18,6 +18,7 @@ abbrev pub placeOf : Wrote → Cursor
 placeOf (Wrote.At c) = c
 placeOf (Wrote.Refused r) = record { at = nowhere }
 
+-- what a place says of the parts before it
 unfoldable pub reached : Cursor → Wrote
 reached c = pick (ltb (c .at) nowhere) (Wrote.At c) (Wrote.Refused (refusal noBits (pos 0) 0))
 

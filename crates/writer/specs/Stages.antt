@@ -40,6 +40,10 @@ module _ (x : Context) (k : ℕ) where
 abbrev pub fields : Context → Fmt ((ℕ × (ℕ × ℕ)) × Parts)
 fields x = seq knownLead (λ l. parts x (l .1 .0))
 
+-- a record's fields written, its sets known
+unfoldable pub fieldsOut : Context → SliceHeader → List ℕ → HeaderOut
+fieldsOut x h out = outOf (written (fields x .good (ofHeader h)) (fields x .bits (ofHeader h)) out 0)
+
 abbrev pub isKnown : Context → SliceHeader → Bool
 isKnown x h = eqb (h .«seq_parameter_set_id») (x .picture .«seq_parameter_set_id») && fields x .good (ofHeader h)
 

@@ -3,7 +3,7 @@ use Prim.Native.Nat.{ℕ}
 use mathlib.Core.List.{List}
 use mathlib.Core.Bool.{Bool, true, _&&_}
 use lib.Dec.{leb}
-use lib.IntN.{ℤ, pos}
+use lib.IntN.{pos}
 use Rattle.bits.specs.Refusals.{pick, refusal}
 use Rattle.bits.specs.Answers.{none}
 use Rattle.bits.specs.Put.{Written, written}
@@ -84,8 +84,3 @@ writeHeader t first x h out = writeWhere true t first x h out
 -- the record that words hold. There is none where a mark or a flag is over 1 or a count over its list's capacity; words behind a count are not looked at
 unfoldable pub writeWords : Table → ℕ → ExtensionGiven → HeaderWords → List ℕ → HeaderOut
 writeWords t first x w out = writeWhere (plain w) t first x (headerFrom w) out
-
--- the arrays that a caller lends
-abbrev pub headerWords : List ℕ → List ℤ → (l0 l1 marking : List ℕ) → (w0 w1 : List ℤ) → HeaderWords
-headerWords numbers signed l0 l1 marking w0 w1 =
-    record { numbers = numbers; signed = signed; l0 = l0; l1 = l1; marking = marking; w0 = w0; w1 = w1 }

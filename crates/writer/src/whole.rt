@@ -7,10 +7,8 @@ use crate::marks::put_number;
 use crate::marks::put_tested;
 use crate::modification::put_modifications;
 use crate::order::put_order_count;
-use crate::places::reached;
 use crate::quantiser::put_quantiser;
 use crate::weight_table::put_pred_weight_table;
-use bits::put::Wrote;
 use bits::read::Cursor;
 use bits::refusals::SLICE_TYPE;
 use record::fields::active_counts_of;
@@ -25,11 +23,10 @@ use syntax::record::Quantiser;
 ghost use mathlib.Core.Bool.{true};
 ghost use mathlib.Core.Path.{_≡_};
 ghost use Prim.Native.Nat.{_≤_};
-ghost use Rattle.fmt.specs.Put.{Put};
 ghost use Rattle.syntax.specs.SliceHeader.{activeOf, ofHeader};
+ghost use Rattle.short.specs.Short.{headerWords};
 ghost use Rattle.record.specs.Fields.{numberIn};
 ghost use Rattle.record.specs.Record.{plainNumbers, headerFrom};
-ghost use Rattle.writer.specs.Write.{headerWords};
 ghost use Rattle.writer.specs.Places.{PutTo};
 ghost use Rattle.writer.specs.Stages.{knownLead, back, middle, fields};
 
@@ -76,7 +73,7 @@ fn put_middle(
     w1: &[i32; 256],
 ) -> Cursor
     requires { ⌜ plainNumbers (now numbers) ≡ true ⌝ }
-    ensures { λ r. ⌜ PutTo (middle x (numberIn (now (numbers .entry)) 1) n0 n1) (ofHeader (headerFrom (headerWords (now (numbers .entry)) (now (signed .entry)) (now (l0 .entry)) (now (l1 .entry)) (now (marking .entry)) (now (w0 .entry)) (now (w1 .entry)))) .1 .1 .1 .1) (now (d .entry)) (c .at) (now (d .exit)) r ⌝ }
+    ensures { λ r. ⌜ PutTo (middle x (numberIn (now (numbers .entry)) 1) n0 n1) (ofHeader (headerFrom (headerWords numbers signed l0 l1 marking w0 w1 .entry)) .1 .1 .1 .1) (now (d .entry)) (c .at) (now (d .exit)) r ⌝ }
 {
     let slice_type = numbers[1];
     let c1 = put_modifications(d, c, x, slice_type, numbers, l0, l1);
@@ -98,10 +95,10 @@ pub(crate) fn put_header(
     marking: &[u32; 198],
     w0: &[i32; 256],
     w1: &[i32; 256],
-) -> Wrote
+) -> Cursor
     requires { ⌜ (x .picture .«num_ref_idx_l0_default_active_minus1» ≤ 31) × (x .picture .«num_ref_idx_l1_default_active_minus1» ≤ 31) ⌝ }
     requires plain { ⌜ plainNumbers (now numbers) ≡ true ⌝ }
-    ensures { λ r. ⌜ Put (fields x) (ofHeader (headerFrom (headerWords (now (numbers .entry)) (now (signed .entry)) (now (l0 .entry)) (now (l1 .entry)) (now (marking .entry)) (now (w0 .entry)) (now (w1 .entry))))) (now (d .entry)) 0 (now (d .exit)) r ⌝ }
+    ensures { λ r. ⌜ PutTo (fields x) (ofHeader (headerFrom (headerWords numbers signed l0 l1 marking w0 w1 .entry))) (now (d .entry)) 0 (now (d .exit)) r ⌝ }
 {
     let slice_type = numbers[1];
     let c1 = put_lead(d, numbers[0], slice_type, numbers[2]);
@@ -118,5 +115,5 @@ pub(crate) fn put_header(
         a.num_ref_idx_l1_active_minus1,
         x.picture.num_ref_idx_l1_default_active_minus1,
     );
-    reached(put_middle(d, c4, x, n0, n1, numbers, signed, l0, l1, marking, w0, w1))
+    put_middle(d, c4, x, n0, n1, numbers, signed, l0, l1, marking, w0, w1)
 }

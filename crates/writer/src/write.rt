@@ -3,24 +3,27 @@ use crate::given::ExtensionGiven;
 use crate::given::KindGiven;
 use crate::given::kind_given;
 use crate::given::why_kind;
+use crate::places::NOWHERE;
 use crate::plain::is_plain;
 use crate::sets::SetsFor;
 use crate::sets::sets_for;
 use crate::sets::why_sets;
 use crate::whole::put_header;
-use bits::put::Wrote;
 use bits::refusals::BUFFER_TOO_SHORT;
 use bits::refusals::NO_BITS;
 use bits::refusals::Refusal;
 use bits::refusals::refuse;
 use codes::conditions::both;
 use syntax::context::Context;
+ghost use mathlib.Core.Bool.{true};
 ghost use mathlib.Core.Path.{_≡_};
 ghost use Prim.Native.Nat.{_*_, _≤_};
 ghost use lib.ListN.{length};
 ghost use Rattle.header.specs.Lead.{tableOf};
-ghost use Rattle.writer.specs.Write.{headerWords, writeWords};
-ghost use Rattle.writer.specs.Stages.{knownOut, copied};
+ghost use Rattle.short.specs.Short.{headerWords};
+ghost use Rattle.record.specs.Record.{plainNumbers, headerFrom};
+ghost use Rattle.writer.specs.Write.{writeWords};
+ghost use Rattle.writer.specs.Stages.{fieldsOut, knownOut, copied};
 
 // What writing a header answers.
 pub enum HeaderWrote {
@@ -31,7 +34,7 @@ pub enum HeaderWrote {
 
 // The bytes of the first n bits of d, out to the front of the buffer, if there is room for them.
 fn copy_out(d: &[u8], n: usize, out: &mut [u8]) -> HeaderWrote
-    requires { ⌜ (n ≤ 8 * 6144) × (length (now d) ≡ 6144) ⌝ }
+    requires { ⌜ (n ≤ 8 * length (now d)) × (length (now d) ≤ 6144) ⌝ }
     ensures { λ r. ⌜ (r ≡ copied (now (d .entry)) n (now (out .entry)) .answer) × (now (out .exit) ≡ copied (now (d .entry)) n (now (out .entry)) .left) ⌝ }
 {
     let m = (n + 7) / 8;
@@ -46,8 +49,56 @@ fn copy_out(d: &[u8], n: usize, out: &mut [u8]) -> HeaderWrote
     HeaderWrote::Bits(n)
 }
 
-// The header by its sets. It is written into a buffer of its own, which has room for every header that there is, so that a refusal leaves the one that is lent as
-// it was, and so that 25 comes before 26.
+// The header's fields, into a buffer that has room for every header that there is: what leads nowhere in it has no bits.
+fn write_long(
+    x: Context,
+    numbers: &[u32; 57],
+    signed: &[i32; 7],
+    l0: &[u32; 198],
+    l1: &[u32; 198],
+    marking: &[u32; 198],
+    w0: &[i32; 256],
+    w1: &[i32; 256],
+    out: &mut [u8],
+) -> HeaderWrote
+    requires { ⌜ ((x .picture .«num_ref_idx_l0_default_active_minus1» ≤ 31) × (x .picture .«num_ref_idx_l1_default_active_minus1» ≤ 31)) × (plainNumbers (now numbers) ≡ true) ⌝ }
+    ensures { λ r. ⌜ (r ≡ fieldsOut x (headerFrom (headerWords numbers signed l0 l1 marking w0 w1 .entry)) (now (out .entry)) .answer) × (now (out .exit) ≡ fieldsOut x (headerFrom (headerWords numbers signed l0 l1 marking w0 w1 .entry)) (now (out .entry)) .left) ⌝ }
+{
+    let mut d = [0u8; 6144];
+    let c = put_header(&mut d, x, numbers, signed, l0, l1, marking, w0, w1);
+    let at = c.at;
+    if at < NOWHERE {
+        return copy_out(&d, at, out);
+    }
+    HeaderWrote::Refused(refuse(NO_BITS, 0, 0))
+}
+
+// The header's fields, into a short buffer first, since to clear a long one costs more than to write most headers. What leads nowhere there is tried again.
+fn write_fields(
+    x: Context,
+    numbers: &[u32; 57],
+    signed: &[i32; 7],
+    l0: &[u32; 198],
+    l1: &[u32; 198],
+    marking: &[u32; 198],
+    w0: &[i32; 256],
+    w1: &[i32; 256],
+    out: &mut [u8],
+) -> HeaderWrote
+    requires { ⌜ ((x .picture .«num_ref_idx_l0_default_active_minus1» ≤ 31) × (x .picture .«num_ref_idx_l1_default_active_minus1» ≤ 31)) × (plainNumbers (now numbers) ≡ true) ⌝ }
+    ensures { λ r. ⌜ (r ≡ fieldsOut x (headerFrom (headerWords numbers signed l0 l1 marking w0 w1 .entry)) (now (out .entry)) .answer) × (now (out .exit) ≡ fieldsOut x (headerFrom (headerWords numbers signed l0 l1 marking w0 w1 .entry)) (now (out .entry)) .left) ⌝ }
+{
+    let mut d = [0u8; 256];
+    let c = put_header(&mut d, x, numbers, signed, l0, l1, marking, w0, w1);
+    let at = c.at;
+    if at <= 2048 {
+        return copy_out(&d, at, out);
+    }
+    write_long(x, numbers, signed, l0, l1, marking, w0, w1, out)
+}
+
+// The header by its sets, if the words hold a record. It is written into a buffer of its own, so that a refusal leaves the one that is lent as it was, and so that
+// 25 comes before 26.
 fn write_known(
     x: Context,
     numbers: &[u32; 57],
@@ -60,18 +111,13 @@ fn write_known(
     out: &mut [u8],
 ) -> HeaderWrote
     requires { ⌜ (x .picture .«num_ref_idx_l0_default_active_minus1» ≤ 31) × (x .picture .«num_ref_idx_l1_default_active_minus1» ≤ 31) ⌝ }
-    ensures { λ r. ⌜ (r ≡ knownOut x (headerWords (now (numbers .entry)) (now (signed .entry)) (now (l0 .entry)) (now (l1 .entry)) (now (marking .entry)) (now (w0 .entry)) (now (w1 .entry))) (now (out .entry)) .answer) × (now (out .exit) ≡ knownOut x (headerWords (now (numbers .entry)) (now (signed .entry)) (now (l0 .entry)) (now (l1 .entry)) (now (marking .entry)) (now (w0 .entry)) (now (w1 .entry))) (now (out .entry)) .left) ⌝ }
+    ensures { λ r. ⌜ (r ≡ knownOut x (headerWords numbers signed l0 l1 marking w0 w1 .entry) (now (out .entry)) .answer) × (now (out .exit) ≡ knownOut x (headerWords numbers signed l0 l1 marking w0 w1 .entry) (now (out .entry)) .left) ⌝ }
 {
     let same = numbers[3] == x.picture.seq_parameter_set_id;
     if !both(is_plain(numbers, w0, w1), same) {
         return HeaderWrote::Refused(refuse(NO_BITS, 0, 0));
     }
-    let mut d = [0u8; 6144];
-    let a = put_header(&mut d, x, numbers, signed, l0, l1, marking, w0, w1);
-    let Wrote::At(c) = a else {
-        return HeaderWrote::Refused(refuse(NO_BITS, 0, 0));
-    };
-    copy_out(&d, c.at, out)
+    write_fields(x, numbers, signed, l0, l1, marking, w0, w1, out)
 }
 
 // The header that lent words hold, written by the sets in a table's two arrays, for the unit that the first byte and the extension tell of. A refusal leaves the
@@ -90,7 +136,7 @@ pub fn write_words_in<'a>(
     w1: &[i32; 256],
     out: &mut [u8],
 ) -> HeaderWrote
-    ensures { λ r. ⌜ (r ≡ writeWords (tableOf (now (sequences .entry)) (now (pictures .entry))) first extension (headerWords (now (numbers .entry)) (now (signed .entry)) (now (l0 .entry)) (now (l1 .entry)) (now (marking .entry)) (now (w0 .entry)) (now (w1 .entry))) (now (out .entry)) .answer) × (now (out .exit) ≡ writeWords (tableOf (now (sequences .entry)) (now (pictures .entry))) first extension (headerWords (now (numbers .entry)) (now (signed .entry)) (now (l0 .entry)) (now (l1 .entry)) (now (marking .entry)) (now (w0 .entry)) (now (w1 .entry))) (now (out .entry)) .left) ⌝ }
+    ensures { λ r. ⌜ (r ≡ writeWords (tableOf (now (sequences .entry)) (now (pictures .entry))) first extension (headerWords numbers signed l0 l1 marking w0 w1 .entry) (now (out .entry)) .answer) × (now (out .exit) ≡ writeWords (tableOf (now (sequences .entry)) (now (pictures .entry))) first extension (headerWords numbers signed l0 l1 marking w0 w1 .entry) (now (out .entry)) .left) ⌝ }
 {
     let a1 = kind_given(first, extension);
     let KindGiven::Of(kind) = a1 else {

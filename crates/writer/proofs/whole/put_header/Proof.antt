@@ -50,22 +50,18 @@ active-requires-2 c κs = search needs
 put-middle-requires : tie.Need-put-middle-requires
 put-middle-requires c κs = c .before .before .before .before .before .before .before .before .before .before .before .before .before .before .before .before .before .before .before .before .before .before .before .before .before .before .before .pre .1
 
-reached-requires : tie.Need-reached-requires
-reached-requires c κs = search needs
-
 same-length : tie.Need-same-length
-same-length c = c .before .before .before .put-middle .kept .0 ∙ c .before .before .before .before .before .before .before .before .before .put-active-counts .kept .0 ∙ c .before .before .before .before .before .before .before .before .before .before .before .before .before .before .put-order-count .kept .0 ∙ c .before .before .before .before .before .before .before .before .before .before .before .before .before .before .before .before .before .before .before .before .put-frame .kept .0 ∙ c .before .before .before .before .before .before .before .before .before .before .before .before .before .before .before .before .before .before .before .before .before .before .before .before .before .put-lead .kept .0
+same-length c = c .before .before .put-middle .kept .0 ∙ c .before .before .before .before .before .before .before .before .put-active-counts .kept .0 ∙ c .before .before .before .before .before .before .before .before .before .before .before .before .before .put-order-count .kept .0 ∙ c .before .before .before .before .before .before .before .before .before .before .before .before .before .before .before .before .before .before .before .put-frame .kept .0 ∙ c .before .before .before .before .before .before .before .before .before .before .before .before .before .before .before .before .before .before .before .before .before .before .before .before .put-lead .kept .0
 
 returns : tie.Need-returns
 unfolding parts headerFrom frameFrom
 returns c =
-    let few = c .before .before .before .before .before .before .before .before .before .before .before .before .before .before .before .before .before .before .before .before .before .before .before .before .before .before .before .before .before .before .before .pre .0 in
-    rw (c .reached .ensures)
-    (on _ _ _ _ (c .before .before .before .before .before .before .before .before .before .before .before .before .before .before .before .before .before .before .before .before .before .before .before .before .before .put-lead .ensures)
-    (on _ _ _ _ (rw (c .before .before .before .before .before .before .before .before .before .before .before .before .before .before .before .before .before .before .before .before .before .frame-of .ensures) at (c .before .before .before .before .before .before .before .before .before .before .before .before .before .before .before .before .before .before .before .before .put-frame .ensures))
-    (on _ _ _ _ (rw (c .before .before .before .before .before .before .before .before .before .before .before .before .before .before .before .before .before .order-count-of .ensures) at (c .before .before .before .before .before .before .before .before .before .before .before .before .before .before .put-order-count .ensures))
-    (on-good _ _ _ _ (rw (c .before .before .before .before .before .before .before .before .before .before .before .active-counts-of .ensures) at (c .before .before .before .before .before .before .before .before .before .put-active-counts .ensures)) (c .before .before .before .put-middle .ensures)
-    (λ t. let g = counts-few _ _ t in rw ((rw (c .before .before .before .before .before .before .before .before .before .before .before .active-counts-of .ensures) at (c .before .before .before .before .before .before .active .ensures)) (g .l0) (few .0), (rw (c .before .before .before .before .before .before .before .before .before .before .before .active-counts-of .ensures) at (c .before .before .before .before .before .active2 .ensures)) (g .l1) (few .1)) at (c .before .before .before .put-middle .ensures))))) .put)
+    let few = c .before .before .before .before .before .before .before .before .before .before .before .before .before .before .before .before .before .before .before .before .before .before .before .before .before .before .before .before .before .before .pre .0 in
+    (on _ _ _ _ (c .before .before .before .before .before .before .before .before .before .before .before .before .before .before .before .before .before .before .before .before .before .before .before .before .put-lead .ensures)
+    (on _ _ _ _ (rw (c .before .before .before .before .before .before .before .before .before .before .before .before .before .before .before .before .before .before .before .before .frame-of .ensures) at (c .before .before .before .before .before .before .before .before .before .before .before .before .before .before .before .before .before .before .before .put-frame .ensures))
+    (on _ _ _ _ (rw (c .before .before .before .before .before .before .before .before .before .before .before .before .before .before .before .before .order-count-of .ensures) at (c .before .before .before .before .before .before .before .before .before .before .before .before .before .put-order-count .ensures))
+    (on-good _ _ _ _ (rw (c .before .before .before .before .before .before .before .before .before .before .active-counts-of .ensures) at (c .before .before .before .before .before .before .before .before .put-active-counts .ensures)) (c .before .before .put-middle .ensures)
+    (λ t. let g = counts-few _ _ t in rw ((rw (c .before .before .before .before .before .before .before .before .before .before .active-counts-of .ensures) at (c .before .before .before .before .before .active .ensures)) (g .l0) (few .0), (rw (c .before .before .before .before .before .before .before .before .before .before .active-counts-of .ensures) at (c .before .before .before .before .active2 .ensures)) (g .l1) (few .1)) at (c .before .before .put-middle .ensures))))))
 
 pub put-header-spec : {M : Type 1} → statement M
 put-header-spec =
@@ -85,6 +81,5 @@ put-header-spec =
     active-requires
     active-requires-2
     put-middle-requires
-    reached-requires
     same-length
     returns)

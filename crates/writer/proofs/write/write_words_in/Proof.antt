@@ -2,11 +2,18 @@ use mathlib.Core.Path.{_≡_, refl, sym, _∙_}
 use lib.ListN.{getD}
 use Rattle.header.specs.Lead.{tableOf}
 use Rattle.record.specs.Record.{headerFrom}
-use Rattle.writer.specs.Write.{headerWords, writeWhere, writeWords}
+use Rattle.short.specs.Short.{HeaderWords}
+use Rattle.writer.specs.Write.{writeWhere, writeWords}
 use Rattle.writer.proofs.Known.{known-few, known-out}
 use borrow.Author.Needs.{needs}
 use Rattle.writer.proofs.write.write_words_in.Statement.{statement}
 use Rattle.writer.proofs.write.write_words_in.Tie as tie
+
+-- the words
+abbrev held : tie.Start → HeaderWords
+held c =
+    let a = c .args in
+    record { numbers = a .numbers .now; signed = a .signed .now; l0 = a .l0 .now; l1 = a .l1 .now; marking = a .marking .now; w0 = a .w0 .now; w1 = a .w1 .now }
 
 kind-given-requires : tie.Need-kind-given-requires
 kind-given-requires c κs = search needs
@@ -57,7 +64,7 @@ unfolding writeWords writeWhere headerFrom
 returns-3 c =
     let a = c .before .before .before .before .before .before .before .before .before .before .before .before .before .before .args in
     let e = sym (c .before .before .before .before .before .before .before .sets-for .ensures) ∙ c .before .before .before .before .before .a2 .given .1 in
-    rw (← c .before .before .before .before .before .before .before .before .before .before .before .before .kind-given .ensures, c .before .before .before .before .before .before .before .before .before .before .a1 .given .1, e, ← known-out (tableOf (a .sequences .now) (a .pictures .now)) _ (headerWords (a .numbers .now) (a .signed .now) (a .l0 .now) (a .l1 .now) (a .marking .now) (a .w0 .now) (a .w1 .now)) (a .out .now) _ _ e) (c .before .before .write-known .ensures)
+    rw (← c .before .before .before .before .before .before .before .before .before .before .before .before .kind-given .ensures, c .before .before .before .before .before .before .before .before .before .before .a1 .given .1, e, ← known-out (tableOf (a .sequences .now) (a .pictures .now)) _ (held (c .before .before .before .before .before .before .before .before .before .before .before .before .before .before)) (a .out .now) _ _ e) (c .before .before .write-known .ensures)
 
 pub write-words-in-spec : {M : Type 1} → statement M
 write-words-in-spec =
