@@ -1,8 +1,8 @@
 // The lines of a listing, for a host that walks by itself: each is written to the front of a lent buffer of 128 bytes, and the answer is its length.
-use crate::units::no_prefix;
 use bits::refusals::Refusal;
 use lines::line::end_line;
 use lines::line::unit_line;
+use unit::answer::no_prefix;
 use unit::into::ShortAnswer;
 ghost use mathlib.Core.Path.{_≡_};
 ghost use Rattle.lines.specs.Lines.{lentLine, endLine, Written};

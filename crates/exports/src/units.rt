@@ -1,11 +1,10 @@
 // Whole units.
 use bits::refusals::Refusal;
-use syntax::marks::MarkedFlag;
+use unit::answer::no_prefix;
 use unit::into::ShortAnswer;
 use unit::into::read_unit_into;
 use words::list_words::PrefixShort;
 ghost use mathlib.Core.Path.{_≡_};
-ghost use Rattle.syntax.specs.Absent.{noPrefix};
 ghost use Rattle.header.specs.Lead.{tableOf};
 ghost use Rattle.words.specs.ListsLent.{prefixShort};
 ghost use Rattle.unit.specs.Unit.{unitRead};
@@ -25,20 +24,6 @@ pub struct ReadOut {
     pub bits: usize,
     // its list stands in words that the caller lends, as a slice's header does
     pub prefix: PrefixShort,
-}
-
-pub(crate) fn no_prefix() -> PrefixShort
-    ensures { λ r. ⌜ r ≡ prefixShort noPrefix ⌝ }
-{
-    let flag = MarkedFlag {
-        there: false,
-        value: false,
-    };
-    PrefixShort {
-        store_ref_base_pic_flag: flag,
-        base_markings: 0,
-        additional_prefix_nal_unit_extension_flag: flag,
-    }
 }
 
 pub(crate) fn tell(a: ShortAnswer) -> ReadOut

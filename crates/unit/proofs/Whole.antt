@@ -9,8 +9,9 @@ use Rattle.record.specs.Record.{headerFrom, prefixFrom}
 use Rattle.record.proofs.Whole.{zeros-sized, emptied-sized, header-from-zeros, from-in, prefix-from-zeros, prefix-from}
 use Rattle.unit.specs.declared.answer.UnitAnswer.{UnitAnswer}
 use Rattle.unit.specs.declared.answer.UnitRead.{UnitRead}
+use Rattle.unit.specs.declared.into.ShortAnswer.{ShortAnswer}
 use Rattle.unit.specs.Unit.{unitRead}
-use Rattle.unit.specs.Into.{short, shortAnswer, longAnswer, prefixIn, blank, after, wordsAfter}
+use Rattle.unit.specs.Into.{short, shortAnswer, longAnswer, prefixIn, Lent, blank, after, wordsAfter}
 use Rattle.unit.proofs.Tidy.{Ordered, unit-ordered}
 
 -- the records, by the answer
@@ -39,12 +40,9 @@ module _ (t : Table) (unit scratch : List ℕ) where
   abbrev read : UnitRead
   read = unitRead t unit scratch .read
 
-  pub unit-from : _≡_ {A = UnitRead}
-      (record {
-        answer = longAnswer (shortAnswer read);
-        header = headerFrom (wordsAfter read blank .header);
-        prefix = prefixFrom (prefixIn (shortAnswer read)) (wordsAfter read blank .base);
-      })
-      read
+  pub unit-whole : {a : ShortAnswer} {w : Lent} → a ≡ shortAnswer read → w ≡ wordsAfter read blank
+      → _≡_ {A = UnitRead} (record { answer = longAnswer a; header = headerFrom (w .header); prefix = prefixFrom (prefixIn a) (w .base) }) read
   unfolding shortAnswer wordsAfter
-  unit-from = same (read .answer) read refl (unit-ordered t unit scratch)
+  unit-whole p q =
+      (λ i. record { answer = longAnswer (p i); header = headerFrom (q i .header); prefix = prefixFrom (prefixIn (p i)) (q i .base) })
+      ∙ same (read .answer) read refl (unit-ordered t unit scratch)

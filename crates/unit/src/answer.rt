@@ -6,6 +6,8 @@ use syntax::record::Prefix;
 use syntax::record::SliceHeader;
 use words::list_words::PrefixShort;
 ghost use mathlib.Core.Path.{_≡_};
+ghost use Rattle.syntax.specs.Absent.{noPrefix};
+ghost use Rattle.words.specs.ListsLent.{prefixShort};
 ghost use Rattle.unit.specs.Into.{longAnswer, prefixIn};
 
 pub enum UnitAnswer {
@@ -35,13 +37,10 @@ pub(crate) fn long_answer(a: ShortAnswer) -> UnitAnswer
     }
 }
 
-// The prefix that an answer holds, without its list; zero where there is none.
-pub(crate) fn prefix_in(a: ShortAnswer) -> PrefixShort
-    ensures { λ r. ⌜ r ≡ prefixIn a ⌝ }
+// A prefix that is absent, without its list.
+pub fn no_prefix() -> PrefixShort
+    ensures { λ r. ⌜ r ≡ prefixShort noPrefix ⌝ }
 {
-    if let ShortAnswer::Prefix(p) = a {
-        return p;
-    }
     let absent = MarkedFlag {
         there: false,
         value: false,
@@ -50,5 +49,17 @@ pub(crate) fn prefix_in(a: ShortAnswer) -> PrefixShort
         store_ref_base_pic_flag: absent,
         base_markings: 0,
         additional_prefix_nal_unit_extension_flag: absent,
+    }
+}
+
+// The prefix of an answer, without its list.
+pub(crate) fn prefix_in(a: ShortAnswer) -> PrefixShort
+    ensures { λ r. ⌜ r ≡ prefixIn a ⌝ }
+{
+    match a {
+        ShortAnswer::Slice(_) => no_prefix(),
+        ShortAnswer::Prefix(p) => p,
+        ShortAnswer::Other(_) => no_prefix(),
+        ShortAnswer::Refused(_) => no_prefix(),
     }
 }
