@@ -6,7 +6,6 @@ use unit::into::read_unit_into;
 use words::list_words::PrefixShort;
 ghost use mathlib.Core.Path.{_≡_};
 ghost use Rattle.header.specs.Lead.{tableOf};
-ghost use Rattle.words.specs.ListsLent.{prefixShort};
 ghost use Rattle.unit.specs.Unit.{unitRead};
 ghost use Rattle.unit.specs.Into.{lentWords, wordsAfter};
 ghost use Rattle.exports.specs.Units.{told, unitOut};
