@@ -9,6 +9,7 @@ import os
 import pathlib
 import subprocess
 import sys
+import tempfile
 
 import numpy
 import tuzmarghil
@@ -45,10 +46,13 @@ def compared(port, clip, table):
 
 def errors():
     clip = ROOT / "demo/night.264"
+    movie = pathlib.Path(tempfile.gettempdir()) / f"tuz-{os.getpid()}.mp4"
+    movie.write_bytes(b"\0\0\0\x20ftypisom" + bytes(24) + clip.read_bytes())
     for call, kind in [
         (lambda: tuzmarghil.reports("/nowhere/clip.264"), OSError),
         (lambda: tuzmarghil.qp("/nowhere/clip.264"), OSError),
         (lambda: list(tuzmarghil.reports(ROOT)), OSError),
+        (lambda: tuzmarghil.reports(movie), ValueError),
         (lambda: tuzmarghil.reports(clip, "sps:0"), ValueError),
         (lambda: tuzmarghil.reports(clip, "sps:0:1:0:0:17:2:0:0:1:99"), ValueError),
     ]:
@@ -57,6 +61,7 @@ def errors():
         except kind:
             continue
         sys.exit(f"python: no {kind.__name__}")
+    movie.unlink()
     unread = [r.refusal for r in tuzmarghil.reports(clip) if r.answer == "refused"]
     held("without a table slices are not refused with 9", unread == [9] * 24)
     held("the sample sets are not sets", next(tuzmarghil.reports(clip, tuzmarghil.SAMPLE)).answer == "other")

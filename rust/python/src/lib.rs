@@ -1,10 +1,11 @@
 //! `import tuzmarghil`: the units of a recording as plain objects, and QP as an array.
 
-use ::tuzmarghil::{Stream, StreamReport, Table, Unit};
+use ::tuzmarghil::{container, Stream, StreamReport, Table, Unit};
 use pyo3::exceptions::{PyOSError, PyValueError};
 use pyo3::prelude::*;
 use pyo3::types::PyBytes;
 use std::fs::File;
+use std::io::{Chain, Cursor, Read};
 use std::path::{Path, PathBuf};
 
 /// A unit of a recording. What it does not have is None.
@@ -123,7 +124,7 @@ fn report(table: &Table, r: &StreamReport<'_>) -> Report {
 /// The reports of a recording, one after the other.
 #[pyclass(module = "tuzmarghil")]
 struct Reports {
-    stream: Stream<File>,
+    stream: Stream<Chain<Cursor<Vec<u8>>, File>>,
     table: Table,
     name: String,
 }
@@ -131,9 +132,16 @@ struct Reports {
 impl Reports {
     fn open(path: &Path, table: Option<&str>) -> PyResult<Reports> {
         let name = path.display().to_string();
-        let file = File::open(path).map_err(|e| PyOSError::new_err(format!("{name}: {e}")))?;
+        let failed = |e| PyOSError::new_err(format!("{name}: {e}"));
+        let mut file = File::open(path).map_err(failed)?;
+        let mut front = Vec::new();
+        let look = file.by_ref().take(4096).read_to_end(&mut front);
+        let whole = look.map_err(failed)? < 4096;
+        if let Some(told) = container(&front, whole) {
+            return Err(PyValueError::new_err(format!("{name}: {told}")));
+        }
         Ok(Reports {
-            stream: Stream::new(file),
+            stream: Stream::new(Cursor::new(front).chain(file)),
             table: table_of(table)?,
             name,
         })

@@ -1,13 +1,14 @@
 //! Recordings and tables from files or standard input, with messages that name the file and the cause.
 
 use crate::output::Input;
-use crate::{container, shown, stop, words};
+use crate::{shown, stop, words};
 use anyhow::{bail, ensure, Context, Result};
 use clap::Args;
 use indicatif::{ProgressBar, ProgressStyle};
 use std::fs::{self, File};
 use std::io::{self, BufRead, BufReader, Cursor, ErrorKind, Read};
 use std::path::{Path, PathBuf};
+use tuzmarghil::{container, container_needs, CONTAINER_LOOK};
 use tuzmarghil::{Stream, StreamReport, Table, LIMIT};
 
 /// The sample sets of document 01, both with id 0.
@@ -87,9 +88,9 @@ impl Clip {
         let mut front = Vec::new();
         let whole = look(&mut source, &mut front).with_context(|| self.name())?;
         ensure!(!front.is_empty(), "{}: is empty", self.name());
-        let told = container::told(&front, whole);
+        let told = container(&front, whole);
         if let (Some(told), false) = (told, self.force) {
-            bail!("{}: {told}", self.name());
+            bail!("{}: {told}; --force reads it all the same", self.name());
         }
         Ok(Recording {
             name: self.name(),
@@ -105,8 +106,8 @@ impl Clip {
 
 /// Reads until a beginning can be told; whether that is all.
 fn look(source: &mut dyn Read, front: &mut Vec<u8>) -> io::Result<bool> {
-    let mut piece = [0; container::LOOK];
-    while front.len() < container::needed(front) {
+    let mut piece = [0; CONTAINER_LOOK];
+    while front.len() < container_needs(front) {
         stop::check()?;
         match source.read(&mut piece) {
             Ok(0) => return Ok(true),

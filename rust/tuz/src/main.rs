@@ -2,7 +2,6 @@
 
 mod answer;
 mod cases;
-mod container;
 mod explain;
 mod form;
 mod input;

@@ -36,6 +36,7 @@
 //! ```
 #![warn(missing_docs)]
 
+mod container;
 mod nal;
 mod prefix;
 #[doc(hidden)]
@@ -54,6 +55,7 @@ mod walk;
 mod words;
 mod write;
 
+pub use container::{container, container_needs, CONTAINER_LOOK};
 pub use nal::{
     NalHeader, NalHeaderExtension, NalHeaderMvcExtension, NalHeaderSvcExtension, UnitType,
     UnitTypeError,

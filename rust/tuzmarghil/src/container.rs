@@ -1,9 +1,10 @@
 //! Files that are no H.264 byte stream: which ones they are, told by their first bytes, and the command that takes the stream out.
 
-use tuzmarghil::LIMIT;
+use crate::LIMIT;
 
 /// As many bytes tell each of them.
-pub const LOOK: usize = 4096;
+#[doc(hidden)]
+pub const CONTAINER_LOOK: usize = 4096;
 
 const FFMPEG: &str = "ffmpeg -i FILE -map 0:v:0 -c:v copy -bsf:v h264_mp4toannexb -f h264 OUT.264";
 const PYTHON: &str = r#"python3 -c 'import sys; i, o = sys.stdin.buffer, sys.stdout.buffer; [o.write(b"\0\0\0\1" + i.read(int.from_bytes(n, "big"))) for n in iter(lambda: i.read(4), b"")]' < FILE > OUT.264"#;
@@ -29,7 +30,8 @@ const MAGIC: [(&str, usize, &[u8]); 16] = [
 ];
 
 /// How many of a file's first bytes must be there to tell. No more are asked of a stream that begins with a start code, so that a live one is shown from its first unit on.
-pub fn needed(front: &[u8]) -> usize {
+#[doc(hidden)]
+pub fn container_needs(front: &[u8]) -> usize {
     let zeros = front.iter().take_while(|b| **b == 0).count();
     let starts = zeros >= 2 && front.get(zeros) == Some(&1);
     // the time before a packet of a transport stream can look like a start code
@@ -40,8 +42,17 @@ pub fn needed(front: &[u8]) -> usize {
     }
 }
 
-/// What the file is, and what to do, where it is no byte stream. `whole`: these bytes are all.
-pub fn told(front: &[u8], whole: bool) -> Option<String> {
+/// What a file is that begins with these bytes, where that is no H.264 byte stream: a container, or units behind lengths, with the command that takes the stream out.
+/// 4,096 bytes are enough to tell; `whole` says that these are all.
+///
+/// ```
+/// use tuzmarghil::container;
+///
+/// let told = container(b"\0\0\0\x20ftypisom", false).unwrap();
+/// assert!(told.starts_with("is an MP4 file, no H.264 byte stream; `ffmpeg -i FILE"));
+/// assert_eq!(container(&[0, 0, 0, 1, 0x67, 0x42, 0, 0x1E], false), None);
+/// ```
+pub fn container(front: &[u8], whole: bool) -> Option<String> {
     let magic = |(_, at, bytes): &&(&str, usize, &[u8])| {
         // before the name of an MP4's first box stands its length, which is large for `mdat` alone
         let length = *at == 0 || front.first() == Some(&0) || *bytes == b"mdat";
@@ -53,11 +64,11 @@ pub fn told(front: &[u8], whole: bool) -> Option<String> {
         found.or_else(|| is_transport_stream(front).then_some("an MPEG transport stream (TS)"));
     if let Some(name) = name {
         return Some(format!(
-            "is {name}, no H.264 byte stream; `{FFMPEG}` takes the stream out of it; --force reads it all the same"
+            "is {name}, no H.264 byte stream; `{FFMPEG}` takes the stream out of it"
         ));
     }
     is_framed(front, whole).then(|| {
-        format!("has its units behind lengths of 4 bytes, not behind start codes, which this command does not read yet; `{PYTHON}` puts start codes in their place; --force reads it all the same")
+        format!("has its units behind lengths of 4 bytes, not behind start codes, which are not read yet; `{PYTHON}` puts start codes in their place")
     })
 }
 
@@ -105,13 +116,13 @@ mod tests {
             let mut front = [0, 0, 1, 0, 0, 0, 0, 0][..at].to_vec();
             front.extend(bytes);
             front.extend([0, 0, 1, 0x65, 0x88]);
-            assert!(told(&front, false).unwrap().contains(name), "{name}");
+            assert!(container(&front, false).unwrap().contains(name), "{name}");
         }
         for step in [188, 192, 204] {
             for first in [0, 4, 100] {
                 let packet = |i: usize| if i % step == first { 0x47 } else { 0 };
                 let front: Vec<u8> = (0..6 * step).map(packet).collect();
-                assert!(told(&front, false).unwrap().contains("transport"));
+                assert!(container(&front, false).unwrap().contains("transport"));
             }
         }
     }
@@ -143,10 +154,17 @@ mod tests {
             );
             let clip = std::fs::read(path).unwrap();
             for from in 0..clip.len().min(20_000) {
-                let front = &clip[from..clip.len().min(from + LOOK)];
-                assert_eq!(told(front, front.len() < LOOK), None, "{from}");
+                let front = &clip[from..clip.len().min(from + CONTAINER_LOOK)];
+                assert_eq!(
+                    container(front, front.len() < CONTAINER_LOOK),
+                    None,
+                    "{from}"
+                );
             }
         }
-        assert_eq!(told(&[0, 0, 0, 1, 9, 0x10, 0, 0, 0, 1, 0x67], true), None);
+        assert_eq!(
+            container(&[0, 0, 0, 1, 9, 0x10, 0, 0, 0, 1, 0x67], true),
+            None
+        );
     }
 }
