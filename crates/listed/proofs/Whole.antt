@@ -75,7 +75,7 @@ module _ (t : Table) (s : List ℕ) (small : length s ≤ most) where
   unit-on f st scratch p n m e h l ih =
       let w = walked t s (st .from) scratch in
       let x : UnitRead = w .walked .read in
-      let u : Report UnitRead = record { place = p; length = n; next = m; read = x } in
+      let u : Report UnitRead = record { place = p; size = n; next = m; read = x } in
       let us : List (Report UnitRead) = reportsBy f t s m (w .left) in
       let line : List ℕ = unitLine (t .pictures) p (bytesAt s p n) x in
       let r : reportsBy (suc f) t s (st .from) scratch ≡ u ∷ us = ap (λ (k : Step). onward k x (λ next. reportsBy f t s next (w .left))) e in

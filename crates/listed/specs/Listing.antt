@@ -30,7 +30,7 @@ bytesAt s place n = take n (drop place s)
 -- a line for each report of a recording's units; `pictures` is the table's array of picture sets
 abbrev pub unitLines : List ℕ → List ℕ → List (Report UnitRead) → List ℕ
 unitLines pictures s [] = []
-unitLines pictures s (u ∷ us) = unitLine pictures (u .place) (bytesAt s (u .place) (u .length)) (u .read) ++ unitLines pictures s us
+unitLines pictures s (u ∷ us) = unitLine pictures (u .place) (bytesAt s (u .place) (u .size)) (u .read) ++ unitLines pictures s us
 
 abbrev pub isRefused : UnitAnswer → Bool
 isRefused (UnitAnswer.Slice bits) = false

@@ -77,8 +77,8 @@ marked =
     ∷ width 1 5 1
     -- P12
     ∷ walk recording
-    (record { place = 4; length = 4; next = 8; read = record { answer = UnitAnswer.Slice 17; header = sampleHeader; prefix = noPrefix } }
-    ∷ record { place = 11; length = 2; next = 13; read = only (UnitAnswer.Other 9) }
+    (record { place = 4; size = 4; next = 8; read = record { answer = UnitAnswer.Slice 17; header = sampleHeader; prefix = noPrefix } }
+    ∷ record { place = 11; size = 2; next = 13; read = only (UnitAnswer.Other 9) }
     ∷ [])
     ∷ listed recording (words "unit place=4 length=4 slice type=7 frame=0 qp=26\nunit place=11 length=2 other type=9\nend units=2 refused=0\n")
     ∷ []

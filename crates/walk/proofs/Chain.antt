@@ -104,7 +104,7 @@ pub record Went (s : List ℕ) (from p l m : ℕ) : Type 0 where
   pub on : from < m
   pub within : m ≤ length s
   pub inside : p + l ≤ m
-  pub there : unitsAt from (drop from s) ≡ record { place = p; length = l; next = m; read = take l (drop p s) } ∷ unitsAt m (drop m s)
+  pub there : unitsAt from (drop from s) ≡ record { place = p; size = l; next = m; read = take l (drop p s) } ∷ unitsAt m (drop m s)
 
 pub went : (s : List ℕ) (from p l m : ℕ) → nextUnit s from ≡ Found.At p l m → Went s from p l m
 unfolding nextUnit unitAt firstFrom

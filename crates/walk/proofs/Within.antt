@@ -16,7 +16,7 @@ use Rattle.walk.proofs.Steps.{found-at, byStep, by-step}
 
 -- the unit ends where the walk goes on or before, and that is no later than the recording's end
 abbrev pub Inside : List ℕ → Report UnitRead → Type 0
-Inside s u = (u .place + u .length ≤ u .next) × (u .next ≤ length s)
+Inside s u = (u .place + u .size ≤ u .next) × (u .next ≤ length s)
 
 module _ (t : Table) (s : List ℕ) (u : Report UnitRead) where
   steps-within : (f from : ℕ) (scratch : List ℕ) → List·Memᴰ u (reportsBy f t s from scratch) → Inside s u
@@ -26,7 +26,7 @@ module _ (t : Table) (s : List ℕ) (u : Report UnitRead) where
       go (nextStep s from) refl (steps-within f) (subst (λ (w : WalkOut). List·Memᴰ u (andOn w (reportsBy f t s))) (by-step t s from scratch) m)
     where
       one : (p l n : ℕ) → nextStep s from ≡ Step.Unit p l n → (List·Memᴰ u (reportsBy f t s n (unitRead t (take l (drop p s)) scratch .left)) → Inside s u)
-          → (u ≡ record { place = p; length = l; next = n; read = unitRead t (take l (drop p s)) scratch .read })
+          → (u ≡ record { place = p; size = l; next = n; read = unitRead t (take l (drop p s)) scratch .read })
           ⊎ List·Memᴰ u (reportsBy f t s n (unitRead t (take l (drop p s)) scratch .left)) → Inside s u
       one p l n e ih (inl d) = let w = went s from p l n (found-at s from e) in rw d (w .inside, w .within)
       one p l n e ih (inr m) = ih m

@@ -13,7 +13,7 @@ use Rattle.walk.specs.Walked.{WalkOut, walked}
 
 -- the report of a step, and those of the steps from where it says to go on
 abbrev pub onward : Step → UnitRead → (ℕ → List (Report UnitRead)) → List (Report UnitRead)
-onward (Step.Unit place length next) read rest = record { place = place; length = length; next = next; read = read } ∷ rest next
+onward (Step.Unit place size next) read rest = record { place = place; size = size; next = next; read = read } ∷ rest next
 onward Step.End read rest = []
 onward (Step.Refused r) read rest = []
 
@@ -50,4 +50,4 @@ endsBefore {A} k rs = sift (λ (u : Report A). leb (u .next + 3) k) rs
 
 -- a report with its places counted from the recording's end, which is n
 abbrev pub toEnd : {A : Type 0} → ℕ → Report A → Report A
-toEnd n u = record { place = n - u .place; length = u .length; next = n - u .next; read = u .read }
+toEnd n u = record { place = n - u .place; size = u .size; next = n - u .next; read = u .read }

@@ -5,10 +5,10 @@ use lib.ListN.{take, drop}
 use Rattle.bits.specs.Refusals.{pick}
 use Rattle.walk.specs.Walk.{hit, upto, lenOf}
 
--- what is said of a unit: the place of its first byte, its length, the place to go on from, and what reading it gives
+-- what is said of a unit: the place of its first byte, how many bytes it has, the place to go on from, and what reading it gives
 pub record Report (A : Type 0) : Type 0 where
   pub place : ℕ
-  pub length : ℕ
+  pub size : ℕ
   pub next : ℕ
   pub read : A
 
@@ -18,7 +18,7 @@ Span = Report (List ℕ)
 
 -- the unit whose start code begins at n, where b stands after the start code
 abbrev pub spanOf : ℕ → List ℕ → Span
-spanOf n b = record { place = n + 3; length = lenOf b; next = n + 3 + upto 0 b; read = take (lenOf b) b }
+spanOf n b = record { place = n + 3; size = lenOf b; next = n + 3 + upto 0 b; read = take (lenOf b) b }
 
 -- the units of what stands from the place n on
 abbrev pub unitsAt : ℕ → List ℕ → List Span
@@ -30,4 +30,4 @@ units s = unitsAt 0 s
 
 -- a unit's report: what is read of its bytes
 abbrev pub reportOf : {A : Type 0} → (List ℕ → A) → Span → Report A
-reportOf f u = record { place = u .place; length = u .length; next = u .next; read = f (u .read) }
+reportOf f u = record { place = u .place; size = u .size; next = u .next; read = f (u .read) }

@@ -26,7 +26,7 @@ pub record WalkOut : Type 0 where
 
 -- what the search found, as a step
 abbrev pub stepTo : Found → Step
-stepTo (Found.At place length next) = Step.Unit place length next
+stepTo (Found.At place size next) = Step.Unit place size next
 stepTo Found.End = Step.End
 
 -- where the walk comes to: 27 first
@@ -39,11 +39,11 @@ nothing s = record { step = s; read = only (UnitAnswer.Other 0) }
 
 -- a step to a unit, and what reading it gives
 abbrev pub reading : ℕ → ℕ → ℕ → UnitOut → WalkOut
-reading place length next u = record { walked = record { step = Step.Unit place length next; read = u .read }; left = u .left }
+reading place size next u = record { walked = record { step = Step.Unit place size next; read = u .read }; left = u .left }
 
 -- a unit is read; at the end scratch is as it was
 abbrev pub afterSearch : Table → List ℕ → List ℕ → Found → WalkOut
-afterSearch t recording scratch (Found.At place length next) = reading place length next (unitRead t (take length (drop place recording)) scratch)
+afterSearch t recording scratch (Found.At place size next) = reading place size next (unitRead t (take size (drop place recording)) scratch)
 afterSearch t recording scratch Found.End = record { walked = nothing Step.End; left = scratch }
 
 -- 27 first
