@@ -64,7 +64,7 @@ typedef struct {
   tuz_Picture picture;
 } tuz_PictureOut;
 
-/* What a change of the table answers: document 01's refusal number and its value, or 0 and 0 where it was done. */
+/* What a change of the table answers: the rules' refusal number and its value, or 0 and 0 where it was done. */
 typedef struct {
   uint32_t number;
   int64_t value;
@@ -162,7 +162,7 @@ typedef struct {
   uint8_t b3;
 } tuz_ExtensionGiven;
 
-/* What writing a header answers: its length in bits, or document 01's refusal. What the answer does not speak of is zero. */
+/* What writing a header answers: its length in bits, or the rules' refusal. What the answer does not speak of is zero. */
 typedef struct {
   uint32_t number;
   int64_t value;

@@ -4,7 +4,7 @@
 edges.py           compares with crates/edges/stdin and crates/edges/stdout, and exits non-zero where they differ
 edges.py --write   writes these files
 """
-from document01 import MVC, SVC
+from rules import MVC, SVC
 from model import hold
 
 LAST = 2**64 - 1

@@ -3,7 +3,7 @@
 
     tests/frozen.py [--port COMMAND | --model] [--rewrite]
 
-COMMAND answers `COMMAND cases FILE`; else $TUZ does, else ./tuz. The model in document01.py is held to them too; --model: it alone.
+COMMAND answers `COMMAND cases FILE`; else $TUZ does, else ./tuz. The model in rules.py is held to them too; --model: it alone.
 With --rewrite the port also writes each slice header that it has read, and stops where its bits do not come back.
 
 A line of answers.txt is the Rust's answer, as tests/oracle prints it. Where the Rust departs from the rules in a known way
@@ -18,7 +18,7 @@ import shlex
 import subprocess
 import sys
 
-from document01 import cases
+from rules import cases
 
 ROOT = pathlib.Path(__file__).resolve().parent.parent
 FROZEN = ROOT / "tests/frozen"

@@ -18,7 +18,7 @@ import subprocess
 import sys
 import time
 
-import document01
+import rules
 from model import CRATES
 
 ROOT = CRATES.parent
@@ -27,14 +27,14 @@ MOST = 65536
 # recordings up to this many bytes are kept as files
 SHORT = 4096
 
-TABLE = document01.table_of(document01.SAMPLE.split())
+TABLE = rules.table_of(rules.SAMPLE.split())
 
 
 def listing(s):
     """What the rules say is printed."""
     if len(s) > MOST:
         return "end too long\n"
-    return "".join(line + "\n" for line in document01.listing(TABLE, s))
+    return "".join(line + "\n" for line in rules.listing(TABLE, s))
 
 
 # ---- the recordings

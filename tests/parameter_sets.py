@@ -5,7 +5,7 @@ parameter_sets.py CLIP > TABLE     the last set of each id that stands in the cl
 """
 import sys
 
-from document01 import Body, Picture, Refused, Sequence, unescaped, units
+from rules import Body, Picture, Refused, Sequence, unescaped, units
 
 HIGH = (100, 110, 122, 244, 44, 83, 86, 118, 128, 138, 139, 134, 135)  # profiles with a chroma format
 

@@ -8,9 +8,9 @@ places and with sizes around sectors of 512 bytes, around start codes, or anywhe
  - units whose end mark lies wholly in P are reported the same, and no others as such;
  - units whose start code begins in S are reported the same, their places counted from the end;
  - the totals are those of the lines;
- - a torn clip's listing is, line by line, the one that document01.py works out.
+ - a torn clip's listing is, line by line, the one that rules.py works out.
 CLIP.table beside a clip holds its parameter sets. COMMAND is asked as `COMMAND list --table FILE CLIP` (else $TUZ is, else ./tuz);
-with --model, document01.py itself lists. A clip torn against the promise is kept, and the exit status is 1.
+with --model, rules.py itself lists. A clip torn against the promise is kept, and the exit status is 1.
 """
 import argparse
 import os
@@ -21,7 +21,7 @@ import subprocess
 import sys
 import tempfile
 
-from document01 import listing, table_of
+from rules import listing, table_of
 
 CLIPS = pathlib.Path(__file__).resolve().parent / "clips"
 SECTOR = 512

@@ -1,6 +1,6 @@
 #!/usr/bin/env python3
 """The records that crates/writings writes, and what it must print: each record written bit by bit as the rules have the header, with no line of the library, and
-the unit that it makes read by the model in document01.py.
+the unit that it makes read by the model in rules.py.
 
 writings.py           compares with crates/writings/stdin and crates/writings/stdout, and exits non-zero where they differ
 writings.py --write   writes these files
@@ -10,7 +10,7 @@ import itertools
 import zlib
 
 from codes import escaped, packed, se, u, ue
-from document01 import B, I, P, SI, SP, Refused, answer, change_cycle_width, joined, table_of
+from rules import B, I, P, SI, SP, Refused, answer, change_cycle_width, joined, table_of
 from model import hold
 
 TABLE = table_of(
@@ -201,7 +201,7 @@ def weight_words(entries, chroma):
 
 
 def words(r, bits):
-    """What document01.py says of the unit, word by word in any order, if it reads back as the record."""
+    """What rules.py says of the unit, word by word in any order, if it reads back as the record."""
     said = {name: str(r[name][1]) for name in MARKED if r[name][0] and not name.startswith("flag_")}
     for name in "first_mb_in_slice slice_type pic_parameter_set_id seq_parameter_set_id frame_num slice_qp_delta".split():
         said[name] = str(r[name])

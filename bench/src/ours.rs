@@ -63,7 +63,7 @@ impl Lent {
     }
 }
 
-/// The walk as document 01 has it.
+/// The walk as the rules have it.
 pub fn walk<'a>(
     table: &'a Table,
     recording: &'a [u8],

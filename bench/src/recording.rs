@@ -7,7 +7,7 @@ use tuzmarghil::{Table, LIMIT};
 
 use crate::random::Random;
 
-/// Document 01's sample sets, as units and as table words.
+/// The rules' sample sets, as units and as table words.
 const SAMPLE: [u8; 18] = [
     0, 0, 1, 0x67, 0x42, 0x00, 0x3E, 0xDA, 0x01, 0x8F, 0x90, 0, 0, 1, 0x68, 0xCE, 0x38, 0x80,
 ];
@@ -90,7 +90,7 @@ impl Recording {
         Some(Recording::new(name, bytes, &words))
     }
 
-    /// Slices of `length` bytes, each with document 01's header and random bytes without a zero.
+    /// Slices of `length` bytes, each with the rules' header and random bytes without a zero.
     pub fn generated(name: &'static str, length: usize) -> Recording {
         let (mut random, mut bytes) = (Random::new(), SAMPLE.to_vec());
         for _ in 0..(4_000_000 / length).max(8) {

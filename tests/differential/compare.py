@@ -11,7 +11,7 @@ import subprocess
 import tempfile
 
 from codes import escaped
-from document01 import unescaped
+from rules import unescaped
 from sets import for_rust, held_by_rust
 
 AGREED = "agreed"

@@ -4,7 +4,7 @@ import pathlib
 import random
 
 from codes import escaped, packed
-from document01 import table_of, units
+from rules import table_of, units
 from headers import slice_pieces
 from sets import drawn_table
 

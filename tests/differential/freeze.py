@@ -16,7 +16,7 @@ sys.path.insert(0, str(HERE.parent))
 
 import generate  # noqa: E402
 from compare import Sides  # noqa: E402
-from document01 import answer, table_of  # noqa: E402
+from rules import answer, table_of  # noqa: E402
 
 SEEDS = range(9001, 9007)
 TRIED = 40_000  # cases of each seed
@@ -85,7 +85,7 @@ def main(oracle):
     named = [line for line in (frozen / "named.txt").read_text().splitlines() if not line.startswith("#")]
     cases = list(dict.fromkeys(itertools.chain(named, sorted(chosen()))))
     with tempfile.TemporaryDirectory() as folder:
-        sides = Sides([sys.executable, str(HERE.parent / "document01.py")], oracle, folder, bits=True)
+        sides = Sides([sys.executable, str(HERE.parent / "rules.py")], oracle, folder, bits=True)
         answers = [c.rust for c in sides.compared(cases)]
     (frozen / "cases.txt").write_text("\n".join(cases) + "\n")
     (frozen / "answers.txt").write_text("\n".join(answers) + "\n")

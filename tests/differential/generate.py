@@ -6,7 +6,7 @@ import sys
 
 sys.path.insert(0, str(pathlib.Path(__file__).resolve().parent.parent))
 
-from document01 import table_of  # noqa: E402
+from rules import table_of  # noqa: E402
 from sets import drawn_table  # noqa: E402
 from units import drawn_unit  # noqa: E402
 

@@ -3,7 +3,7 @@
 `off` names the one field that is out of range, where the header has it; `count`, where given, is the length of its lists.
 """
 from codes import se, u, ue
-from document01 import B, I, P, SI, SP, change_cycle_width
+from rules import B, I, P, SI, SP, change_cycle_width
 
 OFF = ["slice_type", "set_id", "absent", "plane", "active", "modification", "mvc_code", "marking", "qp", "qs", "idc", "alpha", "beta", "long"]
 EDGES = [0, 1, 2, 3, 254, 255, 256, 65_534, 65_535, 2**24, 2**31 - 2, 2**31 - 1, 2**31, 2**32 - 3, 2**32 - 2]

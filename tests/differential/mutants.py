@@ -10,7 +10,7 @@ import types
 TESTS = pathlib.Path(__file__).resolve().parent.parent
 sys.path.insert(0, str(TESTS))
 
-import document01  # noqa: E402
+import rules  # noqa: E402
 import generate  # noqa: E402
 
 EDITS = [
@@ -65,17 +65,17 @@ EDITS = [
 
 
 def main(count):
-    source = (TESTS / "document01.py").read_text()
+    source = (TESTS / "rules.py").read_text()
     cases = []
     for line in generate.lines(77, count):
         *words, unit = line.split()
         unit = b"" if unit == "-" else bytes.fromhex(unit)
         cases.append((words, unit))
-    right = list(answers(document01, cases))
+    right = list(answers(rules, cases))
     missed = 0
     for name, old, new in EDITS:
         if source.count(old) != 1:
-            sys.exit(f"mutants: {name}: {old!r} stands {source.count(old)} times in document01.py")
+            sys.exit(f"mutants: {name}: {old!r} stands {source.count(old)} times in rules.py")
         module = types.ModuleType("mutant")
         exec(compile(source.replace(old, new), "mutant", "exec"), module.__dict__)
         at = next((i for i, (a, b) in enumerate(zip(right, answers(module, cases))) if a != b), None)

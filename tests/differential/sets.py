@@ -1,6 +1,6 @@
 """Parameter sets: drawn at random, and written as the units that the Rust reads."""
 from codes import escaped, packed, se, u, ue
-from document01 import Picture, Sequence, set_of
+from rules import Picture, Sequence, set_of
 
 MOST_UNITS = 139_264  # map units of the largest picture that the Rust's reader takes (level 6.2)
 

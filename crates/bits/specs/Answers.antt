@@ -20,7 +20,7 @@ abbrev pub asFlag : ReadFlag → Res Bool
 asFlag (ReadFlag.Got v c) = got v (c .at)
 asFlag (ReadFlag.Refused r) = no r
 
--- the refusal of an answer that is one; number 0, which document 01 does not give, of one that is not
+-- the refusal of an answer that is one; number 0, which the rules do not give, of one that is not
 abbrev pub none : Refusal
 none = record { number = 0; value = pos 0 }
 

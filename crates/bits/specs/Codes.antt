@@ -1,4 +1,4 @@
--- Fixed-width fields and Exp-Golomb codes at a bit place: what reading finds (H.264, 7.2 and 9.1; document 01, 'Codes'), the bits of a value, and which
+-- Fixed-width fields and Exp-Golomb codes at a bit place: what reading finds (H.264, 7.2 and 9.1; docs/RULES.md, 'Codes'), the bits of a value, and which
 -- values have bits.
 use Prim.Native.Nat.{ℕ, zero, suc, _+_, _-_, _*_, _/_, _%_, _^_}
 use mathlib.Core.List.{List, [], _∷_, _++_}

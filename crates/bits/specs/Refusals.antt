@@ -1,4 +1,4 @@
--- Document 01's refusals: the numbers that this crate, nal, escape and fmt give, what a refusal is, and what reading at a place gives.
+-- The rules' refusals: the numbers that this crate, nal, escape and fmt give, what a refusal is, and what reading at a place gives.
 use Prim.Native.Nat.{ℕ}
 use mathlib.Core.Bool.{Bool, true, false}
 use lib.IntN.{ℤ}

@@ -1,4 +1,4 @@
-// Document 01's refusal numbers and sizes, each named once, and the one place where a refusal is made.
+// The rules' refusal numbers and sizes, each named once, and the one place where a refusal is made.
 ghost use mathlib.Core.Path.{_≡_};
 ghost use Rattle.bits.specs.Refusals.{refusal};
 
@@ -59,7 +59,7 @@ pub const TOO_LARGE: u8 = 27;
 // The size limit of a unit or a recording, in bytes.
 pub const LIMIT: usize = 268_435_456;
 
-// Why a call gives no answer: document 01's number, and its value.
+// Why a call gives no answer: the rules' number, and its value.
 pub struct Refusal {
     pub number: u8,
     pub value: i64,

@@ -1,4 +1,4 @@
--- Worked examples, by computing: document 01's P5 and the edges of unescaping.
+-- Worked examples, by computing: the rules' P5 and the edges of unescaping.
 use mathlib.Core.Path.{_≡_, refl}
 use mathlib.Core.List.{[], _∷_}
 use lib.ListN.{drop}

@@ -1,4 +1,4 @@
--- A unit's body with its emulation prevention bytes dropped (document 01, 'Units and bodies'; H.264, 7.3.1).
+-- A unit's body with its emulation prevention bytes dropped (docs/RULES.md, 'Units and bodies'; H.264, 7.3.1).
 use Prim.Native.Nat.{ℕ, suc}
 use mathlib.Core.List.{List, [], _∷_, _++_}
 use mathlib.Core.Bool.{Bool, _&&_}

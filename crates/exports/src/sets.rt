@@ -27,7 +27,7 @@ pub struct PictureOut {
     pub picture: Picture,
 }
 
-// What a change of the table answers: document 01's refusal number and its value, or 0 and 0 where it was done.
+// What a change of the table answers: the rules' refusal number and its value, or 0 and 0 where it was done.
 #[repr(C)]
 pub struct ChangedOut {
     pub number: u32,

@@ -8,7 +8,7 @@ ghost use Rattle.short.specs.Short.{headerWords};
 ghost use Rattle.writer.specs.Write.{writeWords};
 ghost use Rattle.exports.specs.Writes.{wroteOut};
 
-// What writing a header answers: its length in bits, or document 01's refusal. What the answer does not speak of is zero.
+// What writing a header answers: its length in bits, or the rules' refusal. What the answer does not speak of is zero.
 #[repr(C)]
 pub struct WroteOut {
     pub number: u32,

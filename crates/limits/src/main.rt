@@ -1,4 +1,4 @@
-// Puts sets into a table at every limit of document 01 and one beyond, both ends of each field, and prints what is answered and what the entry then holds. What
+// Puts sets into a table at every limit of the rules and one beyond, both ends of each field, and prints what is answered and what the entry then holds. What
 // it prints is held to the file stdout beside src/.
 mod show; // answers as text
 mod sequences; // a sequence set's fields

@@ -2,7 +2,7 @@
 use super::show;
 use table::sets::Picture;
 
-// Document 01's sample set.
+// The rules' sample set.
 pub(crate) fn sample() -> Picture {
     Picture {
         seq_parameter_set_id: 0,

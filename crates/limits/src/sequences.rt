@@ -2,7 +2,7 @@
 use super::show;
 use table::sets::Sequence;
 
-// Document 01's sample set.
+// The rules' sample set.
 pub(crate) fn sample() -> Sequence {
     Sequence {
         chroma_format_idc: 1,

@@ -1,4 +1,4 @@
--- The lines of a listing (document 01, 'A listing, whole').
+-- The lines of a listing (docs/RULES.md, 'A listing, whole').
 use Prim.Native.Nat.{ℕ, _≤_}
 use mathlib.Core.Path.{_≡_}
 use mathlib.Core.List.{List, _++_}

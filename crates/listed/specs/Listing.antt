@@ -1,4 +1,4 @@
--- A listing (document 01, 'A listing, whole'): the text as a whole, and one step of writing it.
+-- A listing (docs/RULES.md, 'A listing, whole'): the text as a whole, and one step of writing it.
 use Prim.Native.Nat.{ℕ, zero, suc}
 use mathlib.Core.Path.{_≡_}
 use mathlib.Core.List.{List, [], _∷_, _++_}

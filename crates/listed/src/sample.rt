@@ -1,4 +1,4 @@
-// Document 01's sample sets, both id 0.
+// The rules' sample sets, both id 0.
 use table::sets::Picture;
 use table::sets::Sequence;
 use table::table::Table;

@@ -1,4 +1,4 @@
-// Writes the listing of a recording (document 01, 'A listing, whole'): reads at most 65,536 bytes of standard input, lists them with the sample sets, and writes
+// Writes the listing of a recording (docs/RULES.md, 'A listing, whole'): reads at most 65,536 bytes of standard input, lists them with the sample sets, and writes
 // each line as it comes. Here bytes are read and written; what the lines say is the crate `listed`'s.
 mod input; // all of standard input
 

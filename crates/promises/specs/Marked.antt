@@ -1,4 +1,4 @@
--- Document 01's marked examples, in one table: each input, and the answer that its definition must give.
+-- The rules' marked examples, in one table: each input, and the answer that its definition must give.
 use mathlib.Core.Path.{_≡_}
 use mathlib.Core.List.{List, [], _∷_}
 use Prim.Native.Nat.{ℕ}

@@ -19,7 +19,7 @@ fn field(name: &[u8], n: u32) {
     io::print_decimal(STDOUT_FILENO, n as u64);
 }
 
-// Document 01's sample picture set, with deblocking control or without.
+// The rules' sample picture set, with deblocking control or without.
 fn picture(control: bool) -> Picture {
     Picture {
         seq_parameter_set_id: 0,

@@ -1,4 +1,4 @@
--- What the picture set of a context says of its counts of references: a set that was found is within document 01's ranges, and one that was not has counts of 0.
+-- What the picture set of a context says of its counts of references: a set that was found is within the rules' ranges, and one that was not has counts of 0.
 use Prim.Native.Nat.{ℕ, _≤_}
 use mathlib.Core.Path.{_≡_, refl}
 use native.Mathlib.Omega.{arith}

@@ -1,4 +1,4 @@
--- prefix_nal_unit_svc( ) as document 01 has it, from the Rust; M-104 puts the standard's in its place here.
+-- prefix_nal_unit_svc( ) as the rules have it, from the Rust; M-104 puts the standard's in its place here.
 use mathlib.Core.Bool.{Bool, true, false}
 use Rattle.fmt.specs.Fmt.{Fmt, seq, shaped}
 use Rattle.syntax.specs.Marks.{flagIf}

@@ -1,4 +1,4 @@
--- Document 01's sample sets, both id 0, in a table of their own; and the record of its sample unit, `65 88 84 A0`.
+-- The rules' sample sets, both id 0, in a table of their own; and the record of its sample unit, `65 88 84 A0`.
 use mathlib.Core.Bool.{true, false}
 use lib.IntN.{pos}
 use Rattle.table.specs.declared.sets.Picture.{Picture}

@@ -1,4 +1,4 @@
--- slice_header( ): its syntax, once (H.264, 7.3.3, 7.3.3.1 to 7.3.3.3; H.7.3.3.1.1 for the view indices), with document 01's refusals. Reading, writing and sizes
+-- slice_header( ): its syntax, once (H.264, 7.3.3, 7.3.3.1 to 7.3.3.3; H.7.3.3.1.1 for the view indices), with the rules' refusals. Reading, writing and sizes
 -- come from these formats. Elements stand in the tables' order under their names; each condition is the table's.
 use Prim.Native.Nat.{ℕ, _+_}
 use mathlib.Core.List.{[], _∷_}

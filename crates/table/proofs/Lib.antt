@@ -11,4 +11,3 @@ pub mod Values
 pub mod LookShell
 pub mod PutShell
 pub mod WithShell
-pub mod WriteShell

@@ -1,4 +1,4 @@
--- What a set within document 01's ranges says of its fields, as inequalities.
+-- What a set within the rules' ranges says of its fields, as inequalities.
 use mathlib.Core.Path.{_≡_}
 use mathlib.Core.Bool.{true}
 use Prim.Native.Nat.{ℕ, _≤_}

@@ -1,4 +1,4 @@
--- Document 01's ranges of the parameter sets' fields ('Sizes').
+-- The rules' ranges of the parameter sets' fields ('Sizes').
 use Prim.Native.Nat.{ℕ}
 use mathlib.Core.List.{List, [], _∷_}
 use mathlib.Core.Bool.{Bool, true, _&&_}

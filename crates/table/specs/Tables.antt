@@ -1,4 +1,4 @@
--- The parameter table: what an entry holds, looking up, and putting (document 01, 'Sizes').
+-- The parameter table: what an entry holds, looking up, and putting (docs/RULES.md, 'Sizes').
 use Prim.Native.Nat.{ℕ, _*_, _/_, _%_, _^_}
 use mathlib.Core.List.{List, [], _∷_}
 use mathlib.Core.Bool.{Bool, true, _&&_}

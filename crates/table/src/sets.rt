@@ -1,4 +1,4 @@
-// The parameter sets, as far as slice headers need them, and document 01's ranges ('Sizes').
+// The parameter sets, as far as slice headers need them, and the rules' ranges ('Sizes').
 ghost use mathlib.Core.Bool.{_&&_};
 ghost use mathlib.Core.Path.{_≡_};
 ghost use Rattle.table.specs.Sets.{between, betweenZ, planesFit, sequenceFits, pictureFits};
@@ -70,7 +70,7 @@ fn planes_fit(separate: bool, chroma: u32) -> bool
     true
 }
 
-// Whether every field is within document 01's sizes.
+// Whether every field is within the rules' sizes.
 pub fn sequence_fits(s: Sequence) -> bool
     ensures { λ r. ⌜ r ≡ sequenceFits s ⌝ }
 {

@@ -1,4 +1,4 @@
--- What a unit's first bytes say of its body, with document 01's refusals before the body: 27, 1, 2, units of other types, 4.
+-- What a unit's first bytes say of its body, with the rules' refusals before the body: 27, 1, 2, units of other types, 4.
 use Prim.Native.Nat.{ℕ}
 use mathlib.Core.List.{List}
 use mathlib.Core.Bool.{Bool, not, _&&_, _||_}

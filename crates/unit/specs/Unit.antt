@@ -1,4 +1,4 @@
--- Reading a whole unit, as document 01 has it ('Refusal numbers', 'Units and bodies', 'Prefix unit').
+-- Reading a whole unit, as docs/RULES.md has it ('Refusal numbers', 'Units and bodies', 'Prefix unit').
 use Prim.Native.Nat.{ℕ}
 use mathlib.Core.List.{List}
 use mathlib.Core.Bool.{Bool}

@@ -1,4 +1,4 @@
--- Where a recording's units are (document 01, 'Units and bodies'). A recording is the list of its bytes, and what stands from a place on is a list too: each definition goes along it and looks at nothing before it.
+-- Where a recording's units are (docs/RULES.md, 'Units and bodies'). A recording is the list of its bytes, and what stands from a place on is a list too: each definition goes along it and looks at nothing before it.
 use Prim.Native.Nat.{ℕ, zero, suc, _+_}
 use mathlib.Core.List.{List, [], _∷_}
 use mathlib.Core.Bool.{Bool, false, _&&_}

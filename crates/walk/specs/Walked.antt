@@ -1,4 +1,4 @@
--- One step of the walk (document 01, 'Units and bodies'): its answer, and scratch at exit.
+-- One step of the walk (docs/RULES.md, 'The walk'): its answer, and scratch at exit.
 use Prim.Native.Nat.{ℕ}
 use mathlib.Core.List.{List}
 use lib.Dec.{leb}

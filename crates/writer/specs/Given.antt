@@ -1,4 +1,4 @@
--- What a first byte and an extension, or none, say of the unit that a header is written for, with document 01's checks 2, 3, 4 and 13.
+-- What a first byte and an extension, or none, say of the unit that a header is written for, with the rules' checks 2, 3, 4 and 13.
 use Prim.Native.Nat.{ℕ}
 use lib.IntN.{pos}
 use Rattle.bits.specs.Refusals.{pick, refusal, noExtension}

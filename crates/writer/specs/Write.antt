@@ -1,4 +1,4 @@
--- Writing a slice header into a lent buffer, as document 01 has it ('Refusal numbers', its last lines; 'The header, field by field', its last lines).
+-- Writing a slice header into a lent buffer, as docs/RULES.md has it ('Refusal numbers', 'The writer').
 use Prim.Native.Nat.{ℕ}
 use mathlib.Core.List.{List}
 use mathlib.Core.Bool.{Bool, true, _&&_}

@@ -6,7 +6,7 @@ use table::table::empty;
 use table::table::with_picture;
 use table::table::with_sequence;
 
-// Document 01's sample.
+// The rules' sample.
 fn sequence() -> Sequence {
     Sequence {
         chroma_format_idc: 1,
@@ -59,7 +59,7 @@ fn longest() -> Sequence {
     s
 }
 
-// Document 01's sample, by a sequence set.
+// The rules' sample, by a sequence set.
 fn picture(id: u32) -> Picture {
     Picture {
         seq_parameter_set_id: id,

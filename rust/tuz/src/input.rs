@@ -11,7 +11,7 @@ use std::path::{Path, PathBuf};
 use tuzmarghil::{container, container_needs, CONTAINER_LOOK};
 use tuzmarghil::{Stream, StreamReport, Table, LIMIT};
 
-/// The sample sets of document 01, both with id 0.
+/// The sample sets of the rules, both with id 0.
 const SAMPLE: &str = "sps:0:1:0:0:4:2:0:0:1:99 pps:0:0:0:0:0:0:0:0:0:0:0:0:0";
 
 /// Where no start code has come by here, it is told.

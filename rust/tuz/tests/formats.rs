@@ -58,7 +58,7 @@ fn one_schema() {
     );
 }
 
-/// Refusals are told in words in JSON and on a terminal; text that goes elsewhere is document 01's.
+/// Refusals are told in words in JSON and on a terminal; text that goes elsewhere is the rules'.
 #[test]
 fn refusals_in_words() {
     let units = json(&["list", "-", "--sample", "-q"]);

@@ -2,19 +2,19 @@
 
 use std::fmt;
 
-/// A refusal: document 01's number, and its value.
+/// A refusal: the rules' number, and its value.
 #[derive(Clone, Copy, Debug, PartialEq, Eq)]
 #[cfg_attr(feature = "serde", derive(serde::Serialize))]
 #[non_exhaustive]
 pub struct Refusal {
-    /// Document 01's number, 1 to 27.
+    /// The rules' number, 1 to 27.
     pub number: u32,
     /// The value that goes with the number: the field's content, a set's id, the bytes needed, or 0.
     pub value: i64,
 }
 
 impl Refusal {
-    /// A refusal with document 01's number and value.
+    /// A refusal with the rules' number and value.
     pub fn new(number: u32, value: i64) -> Refusal {
         Refusal { number, value }
     }

@@ -6,7 +6,7 @@ use std::io::Write;
 use std::path::{Path, PathBuf};
 use std::process::{Command, Output, Stdio};
 
-/// Document 01's listing: its bytes and its lines.
+/// The rules' listing: its bytes and its lines.
 pub const CLIP: [u8; 13] = [0, 0, 0, 1, 0x65, 0x88, 0x84, 0xA0, 0, 0, 1, 0x09, 0xF0];
 pub const LISTING: &str = "\
 unit place=4 length=4 slice type=7 frame=0 qp=26

@@ -1,8 +1,8 @@
 #!/usr/bin/env python3
 """The rules' reading of units and recordings in plain Python, with no line of the library and none of the Rust.
 
-document01.py cases FILE               an answer line for each case line
-document01.py list [--table FILE] CLIP a listing; FILE holds sps: and pps: words, else the sample sets serve
+rules.py cases FILE               an answer line for each case line
+rules.py list [--table FILE] CLIP a listing; FILE holds sps: and pps: words, else the sample sets serve
 The formats are those of the command `tuz`: docs/CASES.md.
 """
 import re
