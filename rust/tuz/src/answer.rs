@@ -1,7 +1,7 @@
 //! What reading a unit answers, as named fields in reading order: one list, which every form is written from.
 
-use tuzmarghil::raw::{HeaderShort, List, MarkedFlag, MarkedNumber, MarkedSigned, PrefixShort};
 use tuzmarghil::raw::{self, ReadOut, Weight, Weights, Words};
+use tuzmarghil::raw::{HeaderShort, List, MarkedFlag, MarkedNumber, MarkedSigned, PrefixShort};
 use tuzmarghil::{NalHeaderExtension, Refusal, Table};
 
 /// The names of slice types, modulo 5.

@@ -474,3 +474,157 @@ fn sums_do_not_wrap() {
     slice.header.pic_parameter_set_id = 1;
     assert_eq!((slice.qp(&table), slice.qs(&table)), (None, None));
 }
+
+/// What no words can hold is refused by the library, in its place: every check that comes before 25 comes first.
+#[test]
+fn refusals_keep_their_order() {
+    let (table, unit, ..) = b_field();
+    let slice = match read_unit(&table, &unit, &mut Vec::new()) {
+        Ok(Unit::Slice(slice)) => slice,
+        other => panic!("{other:?}"),
+    };
+    let mut long = slice.header.clone();
+    long.dec_ref_pic_marking = Some(DecRefPicMarking::Adaptive(vec![
+        MemoryManagementControlOperation::AllRefPicturesUnused;
+        67
+    ]));
+    let mut short_chroma = slice.header.clone();
+    let weights = short_chroma.pred_weight_table.as_mut().unwrap();
+    weights.chroma_weights.pop();
+    let mut no_denominator = slice.header.clone();
+    let weights = no_denominator.pred_weight_table.as_mut().unwrap();
+    weights.chroma_log2_weight_denom = None;
+    let mut one_of_two = slice.header.clone();
+    let weights = one_of_two.pred_weight_table.as_mut().unwrap();
+    weights.chroma_weights_l1[0].pop();
+
+    let mut out = [0xA5; 6144];
+    let mut number = |table: &Table, first: u8, extension, header: &SliceHeader| {
+        let first = NalHeader::new(first).unwrap();
+        let answer = write_header(table, first, extension, header, &mut out);
+        assert!(out.iter().all(|b| *b == 0xA5));
+        answer.unwrap_err().number
+    };
+    for header in [&long, &short_chroma, &no_denominator, &one_of_two] {
+        let mvc = slice.extension;
+        let svc = Some(NalHeaderExtension::from_bytes([0x80, 0, 0]));
+        let mut far = header.clone();
+        far.pic_parameter_set_id = 256;
+        let mut absent = header.clone();
+        absent.pic_parameter_set_id = 3;
+        let mut alone = Table::new();
+        alone.put_picture(77, table.picture(77).unwrap()).unwrap();
+        assert_eq!(number(&table, 0x69, None, header), 3);
+        assert_eq!(number(&table, 0x74, None, header), 4);
+        assert_eq!(number(&table, 0x74, svc, header), 13);
+        assert_eq!(number(&table, 0x74, mvc, &far), 8);
+        assert_eq!(number(&table, 0x74, mvc, &absent), 9);
+        assert_eq!(number(&alone, 0x74, mvc, header), 10);
+        assert_eq!(number(&table, 0x74, mvc, header), 25);
+    }
+}
+
+/// Words with a mark or a flag over 1, or a count over its list's capacity, are those of no header; words behind a count are not looked at.
+#[test]
+fn words_that_no_reading_leaves() {
+    let (table, unit, bits, _) = b_field();
+    let (mut words, mut out) = (raw::Words::default(), raw::ReadOut::default());
+    let mut scratch = vec![0; unit.len()];
+    raw::read_unit(table.as_raw(), &unit, &mut scratch, &mut words, &mut out);
+    let given = raw::ExtensionGiven {
+        there: true,
+        b1: unit[1],
+        b2: unit[2],
+        b3: unit[3],
+    };
+    let write = |words: &raw::Words| {
+        let mut buffer = [0; 6144];
+        let wrote = raw::write_header(table.as_raw(), unit[0], given, words, &mut buffer);
+        (wrote.number, wrote.bits)
+    };
+    let mut noise = words.clone();
+    (
+        noise.l0[6],
+        noise.l1[197],
+        noise.marking[18],
+        noise.w0[16],
+        noise.w1[255],
+    ) = (7, 7, 7, 7, 7);
+    assert_eq!((write(&words), write(&noise)), ((0, bits), (0, bits)));
+    for flag in [
+        7, 8, 9, 10, 13, 17, 19, 20, 21, 22, 23, 27, 28, 30, 31, 33, 35, 43, 44,
+    ] {
+        let mut other = words.clone();
+        other.numbers[flag] += 1;
+        assert_eq!(write(&other), (25, 0), "{flag}");
+    }
+    for (count, capacity) in [(29, 66), (32, 66), (45, 66), (37, 32), (38, 32)] {
+        for n in [capacity + 1, u32::MAX] {
+            let mut other = words.clone();
+            other.numbers[count] = n;
+            assert_eq!(write(&other), (25, 0), "{count}");
+        }
+    }
+    let mut other = words.clone();
+    other.w0[0] = 2;
+    assert_eq!(write(&other), (25, 0));
+}
+
+/// The first byte and the extension, each field by its bits.
+#[test]
+fn what_a_unit_starts_with() {
+    for id in 0..=255 {
+        match UnitType::for_id(id) {
+            Ok(kind) => assert!(id < 32 && kind.id() == id),
+            Err(UnitTypeError::ValueOutOfRange(n)) => assert!(id > 31 && n == id),
+        }
+        match NalHeader::new(id) {
+            Ok(header) => {
+                let fields = (header.nal_ref_idc(), header.nal_unit_type().id());
+                assert_eq!((id < 128, fields), (true, (id >> 5, id & 31)));
+            }
+            Err(refusal) => assert_eq!((id > 127, refusal.number, refusal.value), (true, 2, 0)),
+        }
+    }
+    for shift in 0..24 {
+        let word = 1u32 << (23 - shift);
+        let [_, a, b, c] = word.to_be_bytes();
+        let of = |at: u32, bits: u32| word >> (24 - at - bits) & ((1 << bits) - 1);
+        match NalHeaderExtension::from_bytes([a, b, c]) {
+            NalHeaderExtension::Svc(_) => assert_eq!(shift, 0),
+            NalHeaderExtension::Mvc(_) => assert!(shift > 0),
+        }
+        let e = NalHeaderMvcExtension([a, b, c]);
+        assert_eq!(
+            (e.non_idr_flag(), e.anchor_pic_flag()),
+            (of(1, 1) == 1, of(21, 1) == 1)
+        );
+        assert_eq!(e.inter_view_flag(), of(22, 1) == 1);
+        assert_eq!(
+            (u32::from(e.priority_id()), u32::from(e.view_id())),
+            (of(2, 6), of(8, 10))
+        );
+        assert_eq!(u32::from(e.temporal_id()), of(18, 3));
+        let e = NalHeaderSvcExtension([a, b, c]);
+        assert_eq!(
+            (e.idr_flag(), e.no_inter_layer_pred_flag()),
+            (of(1, 1) == 1, of(8, 1) == 1)
+        );
+        let ids = [
+            e.priority_id(),
+            e.dependency_id(),
+            e.quality_id(),
+            e.temporal_id(),
+        ];
+        assert_eq!(
+            ids.map(u32::from),
+            [of(2, 6), of(9, 3), of(12, 4), of(16, 3)]
+        );
+        let flags = (
+            e.use_ref_base_pic_flag(),
+            e.discardable_flag(),
+            e.output_flag(),
+        );
+        assert_eq!(flags, (of(19, 1) == 1, of(20, 1) == 1, of(21, 1) == 1));
+    }
+}
