@@ -287,7 +287,8 @@ fn quiet_has_no_bar() {
             .unwrap();
         out(&done)
     };
-    assert!(seen("").contains("MiB/s"), "{:?}", seen(""));
+    let told = seen("");
+    assert!(told.contains("iB/s"), "{told:?}");
     assert_eq!(seen("-q"), "");
     fs::remove_file(clip).unwrap();
 }
