@@ -153,6 +153,7 @@ fn fields(file: &Path) -> String {
 }}
 
 #[inline(always)]
+#[allow(clippy::field_reassign_with_default)]
 pub(crate) fn taken_up(numbers: &[u32; 57], signed: &[i32; 7]) -> HeaderShort {{
     let mut h = HeaderShort::default();
 {up}    h
