@@ -19,7 +19,7 @@ use Rattle.syntax.specs.declared.record.SliceHeader.{SliceHeader}
 use Rattle.syntax.specs.SliceHeader.{header, anySet, readHeader}
 use Rattle.syntax.proofs.Header as syntax
 use Rattle.escape.specs.Body.{body}
-use Rattle.lists.specs.Absent.{noPrefix}
+use Rattle.syntax.specs.Absent.{noPrefix}
 use Rattle.unit.specs.declared.answer.UnitAnswer.{UnitAnswer}
 use Rattle.unit.specs.declared.answer.UnitRead.{UnitRead}
 use Rattle.unit.specs.Answer.{sliceAnswer}
