@@ -1,7 +1,7 @@
 -- Damage behind the header (change request M-109): a slice's record is the same, whatever becomes of the bytes after the last that holds a header bit.
 use Prim.Native.Nat.{ℕ, zero, suc, _+_, _-_, _*_, _≤_, _<_, min}
 use mathlib.Core.Path.{_≡_, refl, sym, ap, subst, subst⁻¹, _∙_}
-use mathlib.Core.List.{List, [], _∷_, _++_}
+use mathlib.Core.List.{List, _++_}
 use mathlib.Core.Bool.{Bool, true, false, true≢false}
 use native.Mathlib.Omega.{arith}
 use native.Mathlib.Decide.{decLt}
@@ -10,13 +10,10 @@ use borrow.Author.Tests.{ltb-true, lt-ltb}
 use lib.Dec.{ltb}
 use lib.ListN.{length, take, drop, length-take, length-drop, take-append-drop}
 use lib.Seq.{drop-nil, getD-take, length-take-le, drop-append-le, take-take, take-length}
-use Rattle.bits.specs.Refusals.{got, pick, limit}
-use Rattle.bits.specs.Bits.{Bits}
+use Rattle.bits.specs.Refusals.{pick, limit}
 use Rattle.bits.specs.Put.{bytesFor}
 use Rattle.table.specs.declared.table.Table.{Table}
-use Rattle.syntax.specs.declared.context.UnitKind.{UnitKind}
 use Rattle.syntax.specs.declared.record.SliceHeader.{SliceHeader}
-use Rattle.syntax.specs.SliceHeader.{header, anySet, readHeader}
 use Rattle.syntax.proofs.Header as syntax
 use Rattle.escape.specs.Body.{body}
 use Rattle.syntax.specs.Absent.{noPrefix}
@@ -114,20 +111,17 @@ cut-none e j u h = rw (cut-body j u) (none-set e (take k (bodyOf u)) (go (decLt 
 
 -- ---- a unit of a recording
 
--- where the search finds a unit: its start code ends at p
-record At (s : List ℕ) (from p l n : ℕ) : Type 0 where
+-- where the search finds a unit of l bytes: its start code ends at p
+record At (s : List ℕ) (from p l : ℕ) : Type 0 where
   code : from + upto 1 (drop from s) + 3 ≡ p
   len : lenOf (drop p s) ≡ l
   room : p ≤ length s
 
-found : (s : List ℕ) (from p l n : ℕ) → nextUnit s from ≡ Found.At p l n → At s from p l n
+found : (s : List ℕ) (from p l n : ℕ) → nextUnit s from ≡ Found.At p l n → At s from p l
 unfolding nextUnit unitAt firstFrom
 found s from p l n e = go (ltb (from + upto 1 (drop from s)) (length s)) refl
   where
-    at : ℕ
-    at = from + upto 1 (drop from s)
-
-    go : (b : Bool) → ltb (from + upto 1 (drop from s)) (length s) ≡ b → At s from p l n
+    go : (b : Bool) → ltb (from + upto 1 (drop from s)) (length s) ≡ b → At s from p l
     go true f =
         let q : Found.At (from + upto 1 (drop from s) + 3) (lenOf (drop (from + upto 1 (drop from s) + 3) s)) _ ≡ Found.At p l n = rw f at e in
         let qp : from + upto 1 (drop from s) + 3 ≡ p = cc in
@@ -173,12 +167,6 @@ module _ (t : Table) (s s′ scratch scratch′ : List ℕ) (from p l n e : ℕ)
       → moreBehind e (take l′ Y′) ≡ true → take (headerBytes e (take l Y)) (take l′ Y′) ≡ take (headerBytes e (take l Y)) (take l Y)
   same-front Y Y′ l′ fits same more = go (decLt (length (take l′ Y′)) (headerBytes e (take l Y)))
     where
-      m : ℕ
-      m = headerBytes e (take l Y)
-
-      u′ : List ℕ
-      u′ = take l′ Y′
-
       go : Dec (length (take l′ Y′) < headerBytes e (take l Y)) → take (headerBytes e (take l Y)) (take l′ Y′) ≡ take (headerBytes e (take l Y)) (take l Y)
       go (yes h) =
           let j = length (take l′ Y′) in

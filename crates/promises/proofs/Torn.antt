@@ -1,8 +1,8 @@
 -- Damage behind the header, shown on one unit and on a recording that holds it, by computing. Of the header's 29 bits the last five stand in a byte 00.
-use Prim.Native.Nat.{ℕ, _+_}
+use Prim.Native.Nat.{ℕ}
 use mathlib.Core.Path.{_≡_, refl}
 use mathlib.Core.List.{List, [], _∷_}
-use mathlib.Core.Bool.{true, false}
+use mathlib.Core.Bool.{false}
 use lib.IntN.{pos, negsuc}
 use lib.ListN.{length, take, replicate}
 use Rattle.bits.specs.Refusals.{refusal}
