@@ -1,6 +1,6 @@
 #!/usr/bin/env python3
 """The definitions that a signer must believe are all named, and no others: docs/PROMISES.md names the files of specs/ that the demands' theorems reach,
-docs/CONTRACTS.md those that the public functions' contracts reach beyond them. And docs/PROMISES.md names every theorem of a demand, and none that is not there.
+docs/CONTRACTS.md those that the public functions' contracts reach beyond them. And docs/PROMISES.md names every theorem for signers, and none that is not there.
 
     tests/believed.py [--list]     (--list: prints what is reached)
 
@@ -14,7 +14,7 @@ import tempfile
 
 from promises import ROOT, functions, plain
 
-THEOREMS = "promises", "proofs", "Demands"
+THEOREMS = {"Demands": "demand-", "Behind": "behind-"}  # files of crates/promises/proofs, and how the theorems for signers begin
 MODULE = re.compile(r"Rattle·(\w+)(?:·\w+)?\.(specs|proofs)\.([\w.]+)$")
 USE = re.compile(r"^(?:ghost )?use (\S+?)(?:\.\{([^}]*)\}|(?: as (\S+?))?);?$", re.M | re.S)
 SIGNATURE = re.compile(r"^( *)((?:(?:abbrev|unfoldable|pub) )*)(record |data )?(«?[^\s(){}:«»]+»?)(?= .*:| *:|$)")
@@ -114,13 +114,16 @@ class Tree:
         return {module for module, _ in self.seen}
 
     def theorems(self):
-        """Follows the demands' statements; gives the theorems' names."""
-        file = self.file(THEOREMS)
-        found = [name for name in file.blocks if name.startswith("demand-")]
-        heads = [line for line in re.findall(r"^module _ .*?where$", (self.root / "crates/promises/proofs/Demands.antt").read_text(), re.M | re.S)]
-        for text in [file.signature(name) for name in found] + heads:
-            self.reach(text, file.names, file.aliases)
-        return found
+        """Follows the statements for signers; gives the theorems' names."""
+        out = []
+        for name, front in THEOREMS.items():
+            file = self.file(("promises", "proofs", name))
+            found = [block for block in file.blocks if block.startswith(front)]
+            heads = re.findall(r"^module _ .*?where$", (self.root / f"crates/promises/proofs/{name}.antt").read_text(), re.M | re.S)
+            for text in [file.signature(block) for block in found] + heads:
+                self.reach(text, file.names, file.aliases)
+            out += found
+        return out
 
     def contracts(self):
         for path in sorted(self.root.glob("crates/*/src/**/*.rt")):
@@ -148,11 +151,13 @@ def differences(page, told, found):
 
 TRIED = {
     "crates/promises/proofs/Demands.antt": "use Rattle.a.specs.Top.{top}\nuse Rattle.a.proofs.Law as law\n\n-- named, not reached\npub demand-1-x : (n : ℕ) → top n ≡ n\ndemand-1-x n = law.other n\n",
+    "crates/promises/proofs/Behind.antt": "use Rattle.c.specs.Late.{late}\n\nlaw : (n : ℕ) → n ≡ n\nlaw n = refl\n\npub behind-y : (n : ℕ) → late n ≡ n\nbehind-y n = law n\n",
     "crates/promises/specs/Lib.antt": "",
     "crates/a/specs/Top.antt": "use Rattle.a.specs.Deep.{Pair, pair}\nuse Rattle.b.specs.All as all\nuse Rattle.a.specs.Unused.{unused}\n\nabbrev pub top : ℕ → ℕ\ntop n = all.all (pair n)\n\nabbrev pub second : ℕ → ℕ\nsecond n = unused n\n",
     "crates/a/specs/Deep.antt": "pub data Pair : Type 0 where\n  -- two\n  pair : ℕ → Pair\n",
     "crates/a/specs/Unused.antt": "abbrev pub unused : ℕ → ℕ\nunused n = n\n",
     "crates/b/specs/All.antt": "module _ (n : ℕ) where\n  abbrev pub all : ℕ\n  all = n\n",
+    "crates/c/specs/Late.antt": "abbrev pub late : ℕ → ℕ\nlate n = n\n",
     "crates/b/src/lib.rt": "ghost use Rattle.a.specs.Unused.{unused};\npub fn f(x: u32) -> u32\n ensures { λ r. ⌜ r ≡ unused x ⌝ }\n{ x }\n",
 }
 
@@ -168,7 +173,7 @@ def tried():
         theorems, deep = tree.theorems(), {".".join(m) for m in tree.reached()}
         tree.contracts()
         all_of = {".".join(m) for m in tree.reached()}
-    if theorems != ["demand-1-x"] or deep != {"a.specs.Top", "a.specs.Deep", "b.specs.All"} or all_of - deep != {"a.specs.Unused"}:
+    if theorems != ["demand-1-x", "behind-y"] or deep != {"a.specs.Top", "a.specs.Deep", "b.specs.All", "c.specs.Late"} or all_of - deep != {"a.specs.Unused"}:
         sys.exit(f"believed: tried on a small tree, it finds {theorems}, {sorted(deep)} and {sorted(all_of - deep)}")
 
 
@@ -185,7 +190,7 @@ def main():
                 print(what, crate, " ".join(m[2] if m[1] == "specs" else "/".join(m[1:]) for m in sorted(modules) if m[0] == crate))
         return 0
     page = (ROOT / "docs/PROMISES.md").read_text()
-    named = set(re.findall(r"`(demand-[\w-]+)`", page))
+    named = set(re.findall(r"`((?:demand|behind)-[\w-]+)`", page))
     wrong = [f"docs/PROMISES.md does not name the theorem {name}" for name in theorems if name not in named]
     wrong += [f"docs/PROMISES.md names {name}, which is no theorem" for name in sorted(named - set(theorems))]
     wrong += differences("docs/PROMISES.md", section("docs/PROMISES.md", "Definitions to believe"), demands)

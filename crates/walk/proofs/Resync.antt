@@ -81,7 +81,7 @@ none-before n k (a ∷ r) h = go (hit 1 (a ∷ r)) (none-before (suc n) k r (ome
     go false ih = ih
 
 -- the search looks at the three bytes that it stops at, and at nothing after them
-near : (k : ℕ) (Q X : List ℕ) → min (upto k Q) (upto k (Q ++ X)) + 3 ≤ length Q → upto k Q ≡ upto k (Q ++ X)
+pub near : (k : ℕ) (Q X : List ℕ) → min (upto k Q) (upto k (Q ++ X)) + 3 ≤ length Q → upto k Q ≡ upto k (Q ++ X)
 near k [] X h = absurd (omega arith)
 near k (a ∷ []) X h = absurd (omega arith)
 near k (a ∷ b ∷ []) X h = absurd (omega arith)
