@@ -1,0 +1,4 @@
+pub mod Deltas
+pub mod Sized
+pub mod Parts
+pub mod Bound
