@@ -1,4 +1,4 @@
--- Sets, contexts and values that make each part of a header as long as it gets: every field there, every number the longest that document 01 allows.
+-- Sets, contexts and values that make each part of a header as long as it gets: every field there, every number the longest that the rules allow.
 use Prim.Native.Nat.{ℕ}
 use mathlib.Core.Bool.{Bool, true, false}
 use mathlib.Core.List.{List}

@@ -1,4 +1,4 @@
--- What the sets of any context are within: a set that was found is within document 01's ranges, and what stands for one that was not is zeros.
+-- What the sets of any context are within: a set that was found is within the rules' ranges, and what stands for one that was not is zeros.
 use Prim.Native.Nat.{ℕ, _≤_}
 use mathlib.Core.Path.{_≡_, refl}
 use mathlib.Core.Bool.{true}

@@ -1,5 +1,5 @@
 -- How many bits a slice header has at most (M-110): what each part has at most, in the header's order, then their sum, a formula over the lengths of the lists
--- and the counts of active references. ue(v) and se(v) have at most 63 bits, and fewer where document 01 bounds the number.
+-- and the counts of active references. ue(v) and se(v) have at most 63 bits, and fewer where the rules bounds the number.
 use Prim.Native.Nat.{ℕ, _+_, _*_, _≤_}
 use mathlib.Core.Path.{_≡_}
 use mathlib.Core.Bool.{false}
