@@ -1,0 +1,7 @@
+pub mod Deltas
+pub mod Sized
+pub mod Parts
+pub mod Bound
+pub mod Fullest
+pub mod Has
+pub mod Reaching
