@@ -113,8 +113,8 @@ fn main() {
         }
     }
     if asked("writing") {
-        writing::headers(&small, &measure);
-        writing::recording(&tiny, &peers, &measure);
+        writing::headers(&small, &measure, &mut bars);
+        writing::recording(&tiny, &peers, &measure, &mut bars);
     }
     if asked("linear") {
         for made in [&small, &large] {

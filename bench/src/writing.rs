@@ -2,6 +2,7 @@
 
 use std::hint::black_box;
 
+use crate::bars::Bars;
 use crate::heads::LONGEST;
 use crate::ours;
 use crate::peers::Span;
@@ -9,10 +10,10 @@ use crate::race::{print, race, Lane};
 use crate::recording::Recording;
 use crate::{Measure, Peers};
 
-/// A few headers, over and over: a record has some 5,000 bytes, and a recording's would not fit the cache.
+/// A few headers, over and over: their words have some 5,000 bytes each, and a recording's would not fit the cache.
 const HEADERS: usize = 64;
 
-pub fn headers(made: &Recording, measure: &Measure) {
+pub fn headers(made: &Recording, measure: &Measure, bars: &mut Bars) {
     let heads = made.slices().map(|unit| &unit[..unit.len().min(LONGEST)]);
     let units: Vec<&[u8]> = heads.take(HEADERS).collect();
     let headers = ours::headers(&made.table, &units);
@@ -37,12 +38,14 @@ pub fn headers(made: &Recording, measure: &Measure) {
         bits as f64 / 8.0 / headers.len() as f64
     );
     print(&lanes, (times * headers.len()) as u64, "header", None);
+    let text = format!("a header of {} written, in readings of it", made.name);
+    bars.at_most(&text, lanes[0].best / lanes[1].best, 2.5);
 }
 
 /// Units in a packet that goes to ffmpeg: the slices of a picture.
 const TOGETHER: usize = 12;
 
-pub fn recording(made: &Recording, peers: &Peers, measure: &Measure) {
+pub fn recording(made: &Recording, peers: &Peers, measure: &Measure, bars: &mut Bars) {
     let recording = made.sized(measure.size / 16);
     let (bytes, longest) = (&recording.bytes[..], recording.longest());
     let mut ours = ours::rewrite(&recording.table, bytes, longest);
@@ -74,4 +77,8 @@ pub fn recording(made: &Recording, peers: &Peers, measure: &Measure) {
         bytes.len() as f64 / 1e6
     );
     print(&lanes, want.units, "unit", None);
+    for lane in &lanes[1..] {
+        let text = format!("{} read and written, over ffmpeg", made.name);
+        bars.at_least(&text, lane.best / lanes[0].best, 2.0);
+    }
 }
