@@ -4,7 +4,7 @@ use lib.Dec.{eqb}
 use lib.IntN.{ℤ}
 use Rattle.bits.specs.Refusals.{pick}
 use Rattle.syntax.specs.Absent.{noPrefix}
-use Rattle.words.specs.ListsLent.{prefixShort}
+use Rattle.lists.specs.ListsLent.{prefixShort}
 use Rattle.unit.specs.declared.into.ShortAnswer.{ShortAnswer}
 
 -- by its answer, number and value: 0, another type; 1, a slice; 2, a prefix unit; else refused. A line speaks neither of a header's length nor of a prefix's fields

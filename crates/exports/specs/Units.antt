@@ -2,7 +2,7 @@
 use lib.IntN.{pos}
 use Rattle.bits.specs.declared.refusals.Refusal.{Refusal}
 use Rattle.syntax.specs.Absent.{noPrefix}
-use Rattle.words.specs.ListsLent.{prefixShort}
+use Rattle.lists.specs.ListsLent.{prefixShort}
 use Rattle.unit.specs.declared.answer.UnitRead.{UnitRead}
 use Rattle.unit.specs.declared.into.ShortAnswer.{ShortAnswer}
 use Rattle.unit.specs.Into.{shortAnswer}

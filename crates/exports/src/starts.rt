@@ -1,5 +1,5 @@
 // What a unit starts with, field by field: its first byte and its extension.
-use codes::conditions::either;
+use fields::conditions::either;
 use nal::extension::NalHeaderExtension;
 use nal::extension::NalHeaderMvcExtension;
 use nal::extension::NalHeaderSvcExtension;

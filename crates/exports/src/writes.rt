@@ -4,7 +4,7 @@ use writer::write::HeaderWrote;
 use writer::write::write_words_in;
 ghost use mathlib.Core.Path.{_≡_};
 ghost use Rattle.header.specs.Lead.{tableOf};
-ghost use Rattle.short.specs.Short.{headerWords};
+ghost use Rattle.header.specs.Short.{headerWords};
 ghost use Rattle.writer.specs.Write.{writeWords};
 ghost use Rattle.exports.specs.Writes.{wroteOut};
 

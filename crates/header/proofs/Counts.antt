@@ -11,7 +11,7 @@ use Rattle.bits.specs.Bits.{Bits}
 use Rattle.bits.proofs.Results.{under, bind-bind}
 use Rattle.fmt.specs.Fmt.{seq, shaped}
 use Rattle.fmt.specs.Leaves.{ue}
-use Rattle.codes.proofs.Cases.{number-passed}
+use Rattle.fields.proofs.Cases.{number-passed}
 use Rattle.table.specs.declared.table.Table.{Table}
 use Rattle.syntax.specs.declared.context.UnitKind.{UnitKind}
 use Rattle.syntax.specs.declared.context.Context.{Context}

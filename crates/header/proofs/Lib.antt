@@ -3,3 +3,7 @@ pub mod Sets
 pub mod Unique
 pub mod Split
 pub mod Counts
+pub mod Told
+pub mod Lists
+pub mod Parts
+pub mod Tidy

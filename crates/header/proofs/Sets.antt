@@ -9,7 +9,7 @@ use Rattle.bits.specs.Bits.{Bits}
 use Rattle.fmt.specs.Fmt.{Fmt, test}
 use Rattle.fmt.specs.Leaves.{ue}
 use Rattle.fmt.proofs.Turns.{test-passes, test-refuses}
-use Rattle.codes.proofs.Cases.{test-none}
+use Rattle.fields.proofs.Cases.{test-none}
 use Rattle.table.specs.declared.sets.Picture.{Picture}
 use Rattle.table.specs.declared.sets.Sequence.{Sequence}
 use Rattle.table.specs.declared.table.Table.{Table}

@@ -1,6 +1,6 @@
 // What a unit's first byte and its extension say of its slice header.
-use codes::conditions::both;
-use codes::conditions::either;
+use fields::conditions::both;
+use fields::conditions::either;
 use nal::extension::NalHeaderExtension;
 use nal::header::NalHeader;
 use syntax::context::UnitKind;

@@ -8,7 +8,7 @@ use bits::refusals::PICTURE_SET_ID;
 use bits::refusals::Refusal;
 use bits::refusals::SLICE_TYPE;
 use bits::refusals::refuse;
-use codes::fields::tested;
+use fields::read::tested;
 use table::sets::Picture;
 use table::sets::Sequence;
 use table::words::FoundPicture;

@@ -1,12 +1,12 @@
 // Writes the listing of a recording (docs/RULES.md, 'A listing, whole'): reads at most 65,536 bytes of standard input, lists them with the sample sets, and writes
-// each line as it comes. Here bytes are read and written; what the lines say is the crate `listed`'s.
+// each line as it comes. Here bytes are read and written; what the lines say is the crate `list_steps`'s.
 mod input; // all of standard input
 
 use libc::STDERR_FILENO;
 use libc::STDOUT_FILENO;
-use listed::sample::sample_table;
-use listed::step::list_step;
-use listed::step::start;
+use list_steps::sample::sample_table;
+use list_steps::step::list_step;
+use list_steps::step::start;
 
 fn complain(words: &[u8]) {
     io::write_all(STDERR_FILENO, words);

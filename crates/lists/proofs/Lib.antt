@@ -1,2 +1,7 @@
 pub mod Reading
 pub mod Unique
+pub mod Fronts
+pub mod Emptied
+pub mod Tidy
+pub mod Lent
+pub mod Prefixed

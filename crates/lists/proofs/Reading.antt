@@ -18,7 +18,7 @@ use Rattle.fmt.proofs.Along.{Along, begin, refused-code, closed, full, refused-
 use Rattle.syntax.specs.declared.record.Operations.{Operations}
 use Rattle.syntax.specs.Lists.{Kind, entries, code, operands, operations, toOperations, noOperations, isNoOperations, operationsIf}
 use Rattle.syntax.specs.Marks.{isZero, given}
-use Rattle.codes.proofs.Cases.{given-there, given-absent}
+use Rattle.fields.proofs.Cases.{given-there, given-absent}
 use Rattle.lists.specs.declared.operations.ListKind.{ListKind}
 use Rattle.lists.specs.Kinds.{kindOf}
 

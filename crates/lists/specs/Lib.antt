@@ -1,1 +1,3 @@
 pub mod Kinds
+pub mod Leaves
+pub mod ListsLent

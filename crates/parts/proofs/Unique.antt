@@ -9,7 +9,11 @@ use Rattle.parts.specs.declared.frame.FrameStep.{FrameStep}
 use Rattle.parts.specs.declared.order.DeltasStep.{DeltasStep}
 use Rattle.parts.specs.declared.order.OrderCountStep.{OrderCountStep}
 use Rattle.parts.specs.declared.counts.ActiveCountsStep.{ActiveCountsStep}
-use Rattle.parts.specs.Steps.{asFrame, asDeltas, asOrderCount, asActiveCounts}
+use Rattle.parts.specs.Steps.{asFrame, asDeltas, asOrderCount, asActiveCounts, asQuantiser, asFilter}
+use Rattle.syntax.specs.declared.record.Quantiser.{Quantiser}
+use Rattle.syntax.specs.declared.record.Filter.{Filter}
+use Rattle.parts.specs.declared.quantiser.QuantiserStep.{QuantiserStep}
+use Rattle.parts.specs.declared.filter.FilterStep.{FilterStep}
 
 -- a function with a way back
 back-one : {A B : Type 0} (f : A → B) (g : B → A) → ((a : A) → g (f a) ≡ a) → (a b : A) → f a ≡ f b → a ≡ b
@@ -58,3 +62,25 @@ active-counts-back (ActiveCountsStep.Refused r) = refl
 
 pub active-counts-one : (r q : ActiveCountsStep) → asActiveCounts r ≡ asActiveCounts q → r ≡ q
 active-counts-one = back-one asActiveCounts toActiveCounts active-counts-back
+
+abbrev toQuantiser : Res Quantiser → QuantiserStep
+toQuantiser (got p e) = QuantiserStep.Got p (record { at = e })
+toQuantiser (no r) = QuantiserStep.Refused r
+
+quantiser-back : (r : QuantiserStep) → toQuantiser (asQuantiser r) ≡ r
+quantiser-back (QuantiserStep.Got p c) = refl
+quantiser-back (QuantiserStep.Refused r) = refl
+
+pub quantiser-one : (r q : QuantiserStep) → asQuantiser r ≡ asQuantiser q → r ≡ q
+quantiser-one = back-one asQuantiser toQuantiser quantiser-back
+
+abbrev toFilter : Res Filter → FilterStep
+toFilter (got p e) = FilterStep.Got p (record { at = e })
+toFilter (no r) = FilterStep.Refused r
+
+filter-back : (r : FilterStep) → toFilter (asFilter r) ≡ r
+filter-back (FilterStep.Got p c) = refl
+filter-back (FilterStep.Refused r) = refl
+
+pub filter-one : (r q : FilterStep) → asFilter r ≡ asFilter q → r ≡ q
+filter-one = back-one asFilter toFilter filter-back

@@ -10,6 +10,10 @@ use Rattle.parts.specs.declared.frame.FrameStep.{FrameStep}
 use Rattle.parts.specs.declared.order.DeltasStep.{DeltasStep}
 use Rattle.parts.specs.declared.order.OrderCountStep.{OrderCountStep}
 use Rattle.parts.specs.declared.counts.ActiveCountsStep.{ActiveCountsStep}
+use Rattle.syntax.specs.declared.record.Quantiser.{Quantiser}
+use Rattle.syntax.specs.declared.record.Filter.{Filter}
+use Rattle.parts.specs.declared.quantiser.QuantiserStep.{QuantiserStep}
+use Rattle.parts.specs.declared.filter.FilterStep.{FilterStep}
 
 abbrev pub asFrame : FrameStep → Res Frame
 asFrame (FrameStep.Got p c) = got p (c .at)
@@ -42,3 +46,19 @@ asActiveCounts (ActiveCountsStep.Refused r) = no r
 abbrev pub whyActiveCounts : ActiveCountsStep → Refusal
 whyActiveCounts (ActiveCountsStep.Got p c) = none
 whyActiveCounts (ActiveCountsStep.Refused r) = r
+
+abbrev pub asQuantiser : QuantiserStep → Res Quantiser
+asQuantiser (QuantiserStep.Got p c) = got p (c .at)
+asQuantiser (QuantiserStep.Refused r) = no r
+
+abbrev pub whyQuantiser : QuantiserStep → Refusal
+whyQuantiser (QuantiserStep.Got p c) = none
+whyQuantiser (QuantiserStep.Refused r) = r
+
+abbrev pub asFilter : FilterStep → Res Filter
+asFilter (FilterStep.Got p c) = got p (c .at)
+asFilter (FilterStep.Refused r) = no r
+
+abbrev pub whyFilter : FilterStep → Refusal
+whyFilter (FilterStep.Got p c) = none
+whyFilter (FilterStep.Refused r) = r

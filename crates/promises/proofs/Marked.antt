@@ -24,7 +24,7 @@ use Rattle.walk.specs.Walked.{nothing as no-unit, walked}
 use Rattle.lines.specs.Text.{decimal}
 use Rattle.lines.specs.Level.{initQp, finalQp}
 use Rattle.lines.specs.Lines.{unitLine, endLine}
-use Rattle.listed.specs.Listing.{listing}
+use Rattle.list_steps.specs.Listing.{listing}
 use Rattle.promises.specs.Marked.{All, marked}
 
 pub marked-hold : All marked

@@ -18,7 +18,7 @@ use Rattle.unit.specs.Unit.{unitRead}
 use Rattle.walk.specs.Units.{Report}
 use Rattle.walk.specs.Reports.{reports}
 use Rattle.lines.specs.Text.{words}
-use Rattle.listed.specs.Listing.{listing}
+use Rattle.list_steps.specs.Listing.{listing}
 
 pub data Example : Type 0 where
   -- bytes whose first code is read, and what reading gives

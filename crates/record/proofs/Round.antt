@@ -22,9 +22,9 @@ use Rattle.syntax.specs.declared.record.WeightList.{WeightList}
 use Rattle.syntax.proofs.Operations.{of-to-operations, to-of-operations, few-operations, length-of-operations}
 use Rattle.syntax.proofs.Weights.{no-weight-is}
 use Rattle.weights.specs.Counts.{atMost32}
-use Rattle.words.specs.ListsLent.{operationWords, listWords, atMost66, emptiedList}
-use Rattle.words.specs.WeightsLent.{flagWord, entryWords, weightWords, emptiedWeights}
-use Rattle.words.proofs.Fronts.{length-flat}
+use Rattle.lists.specs.ListsLent.{operationWords, listWords, atMost66, emptiedList}
+use Rattle.weights.specs.WeightsLent.{flagWord, entryWords, weightWords, emptiedWeights}
+use Rattle.lists.proofs.Fronts.{length-flat}
 use Rattle.record.specs.Entries.{isSetZ, operationsIn, operationsFrom, weightFrom, weightsIn, weightsFrom}
 use Rattle.record.specs.Record.{isBitZ, plainWeights}
 use Rattle.record.proofs.Tests.{assoc}

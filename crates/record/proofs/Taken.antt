@@ -21,7 +21,7 @@ use Rattle.syntax.specs.declared.record.Operations.{Operations}
 use Rattle.syntax.specs.declared.record.Weight.{Weight}
 use Rattle.syntax.specs.declared.record.WeightList.{WeightList}
 use Rattle.weights.specs.Counts.{atMost32}
-use Rattle.words.specs.ListsLent.{atMost66}
+use Rattle.lists.specs.ListsLent.{atMost66}
 use Rattle.record.specs.Entries.{operationsIn, operationsFrom, isSetZ, weightFrom, weightsIn, weightsFrom}
 
 -- a signed number is zero where its bits are

@@ -27,10 +27,10 @@ use Rattle.syntax.specs.declared.marks.MarkedNumber.{MarkedNumber}
 use Rattle.syntax.specs.declared.record.SliceHeader.{SliceHeader}
 use Rattle.syntax.specs.Prefix.{prefix}
 use Rattle.syntax.specs.declared.record.Prefix.{Prefix}
-use Rattle.words.specs.ListsLent.{listWords, atMost66, prefixShort}
-use Rattle.words.specs.WeightsLent.{weightWords}
-use Rattle.short.specs.Short.{bit, numberWords, flagWords, shortOf, numbersOf, signedOf, HeaderWords, emptied, headerIn, zeros}
-use Rattle.short.proofs.Tidy.{InOrder, good-in-order, operationsIf-ok}
+use Rattle.lists.specs.ListsLent.{listWords, atMost66, prefixShort}
+use Rattle.weights.specs.WeightsLent.{weightWords}
+use Rattle.header.specs.Short.{bit, numberWords, flagWords, shortOf, numbersOf, signedOf, HeaderWords, emptied, headerIn, zeros}
+use Rattle.header.proofs.Tidy.{InOrder, good-in-order, operationsIf-ok}
 use Rattle.record.specs.Fields.{numberIn, setIn, markedNumber, markedFlag, frameFrom, orderCountFrom, activeCountsFrom, quantiserFrom, filterFrom}
 use Rattle.record.specs.Entries.{operationsIn, operationsFrom, weightsIn, weightsFrom}
 use Rattle.record.specs.Record.{modificationsFrom, weightTableFrom, markingFrom, headerFrom, prefixFrom, within, withins, flags, plainNumbers, plainWeights, plain}

@@ -12,7 +12,7 @@ use Rattle.syntax.specs.declared.record.Operations.{Operations}
 use Rattle.syntax.specs.declared.record.Weight.{Weight}
 use Rattle.syntax.specs.declared.record.WeightList.{WeightList}
 use Rattle.weights.specs.Counts.{atMost32}
-use Rattle.words.specs.ListsLent.{atMost66}
+use Rattle.lists.specs.ListsLent.{atMost66}
 
 -- the first n entries, three words each
 unfoldable pub operationsIn : ℕ → List ℕ → List Operation

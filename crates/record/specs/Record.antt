@@ -10,8 +10,8 @@ use Rattle.syntax.specs.declared.record.PredWeightTable.{PredWeightTable}
 use Rattle.syntax.specs.declared.record.DecRefPicMarking.{DecRefPicMarking}
 use Rattle.syntax.specs.declared.record.SliceHeader.{SliceHeader}
 use Rattle.syntax.specs.declared.record.Prefix.{Prefix}
-use Rattle.words.specs.declared.list_words.PrefixShort.{PrefixShort}
-use Rattle.short.specs.Short.{HeaderWords}
+use Rattle.lists.specs.declared.list_words.PrefixShort.{PrefixShort}
+use Rattle.header.specs.Short.{HeaderWords}
 use Rattle.record.specs.Fields.{numberIn, setIn, markedNumber, markedFlag, frameFrom, orderCountFrom, activeCountsFrom, quantiserFrom, filterFrom}
 use Rattle.record.specs.Entries.{operationsFrom, weightsFrom}
 

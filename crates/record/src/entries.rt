@@ -3,7 +3,7 @@ use syntax::record::Operations;
 use syntax::record::Weight;
 use syntax::record::WeightList;
 use weights::list::at_most_32;
-use words::list_words::at_most_66;
+use lists::list_words::at_most_66;
 ghost use mathlib.Core.Path.{_≡_};
 ghost use Prim.Native.Nat.{_*_, _<_};
 ghost use lib.IntN.{pos};

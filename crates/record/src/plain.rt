@@ -1,6 +1,6 @@
 // Whether words say what they say in one way: marks and flags are 0 or 1, and no count is over its list's capacity. Nothing returns early: tests without
 // branches are cheaper, and nearly all words pass.
-use codes::conditions::both;
+use fields::conditions::both;
 ghost use mathlib.Core.Path.{_≡_};
 ghost use mathlib.Core.Bool.{_&&_};
 ghost use mathlib.Core.List.{[], _∷_};

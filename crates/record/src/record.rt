@@ -14,7 +14,7 @@ use syntax::record::Modifications;
 use syntax::record::PredWeightTable;
 use syntax::record::Prefix;
 use syntax::record::SliceHeader;
-use words::list_words::PrefixShort;
+use lists::list_words::PrefixShort;
 ghost use mathlib.Core.Path.{_≡_};
 ghost use Rattle.record.specs.Record.{modificationsFrom, weightTableFrom, markingFrom, headerFrom, prefixFrom};
 

@@ -14,12 +14,12 @@ use Rattle.syntax.specs.declared.record.SliceHeader.{SliceHeader}
 use Rattle.syntax.specs.declared.record.Prefix.{Prefix}
 use Rattle.syntax.specs.SliceHeader.{readHeader}
 use Rattle.syntax.specs.Prefix.{prefix}
-use Rattle.codes.specs.declared.step.End.{End}
-use Rattle.words.specs.declared.list_words.PrefixShort.{PrefixShort}
-use Rattle.words.specs.declared.list_words.PrefixStep.{PrefixStep}
-use Rattle.words.specs.Leaves.{leaves}
-use Rattle.words.specs.ListsLent.{prefixStep, prefixLeft}
-use Rattle.short.specs.Short.{HeaderWords, zeros, headerEnd, headerLeft}
+use Rattle.fields.specs.declared.step.End.{End}
+use Rattle.lists.specs.declared.list_words.PrefixShort.{PrefixShort}
+use Rattle.lists.specs.declared.list_words.PrefixStep.{PrefixStep}
+use Rattle.lists.specs.Leaves.{leaves}
+use Rattle.lists.specs.ListsLent.{prefixStep, prefixLeft}
+use Rattle.header.specs.Short.{HeaderWords, zeros, headerEnd, headerLeft}
 use Rattle.unit.specs.declared.answer.UnitAnswer.{UnitAnswer}
 use Rattle.unit.specs.declared.answer.UnitRead.{UnitRead}
 use Rattle.unit.specs.declared.into.ShortAnswer.{ShortAnswer}

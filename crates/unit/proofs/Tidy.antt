@@ -22,10 +22,10 @@ use Rattle.syntax.specs.Lists.{okOperations}
 use Rattle.syntax.specs.Prefix.{prefix}
 use Rattle.syntax.proofs.Goods.{seq-first, seq-rest, shaped-from}
 use Rattle.syntax.proofs.Whole.{prefix-lawful}
-use Rattle.words.specs.ListsLent.{listWords}
-use Rattle.words.proofs.Tidy.{list-padded}
-use Rattle.short.specs.Short.{HeaderWords, zeros, Tidy, headerAlone}
-use Rattle.short.proofs.Tidy.{InOrder, operationsIf-ok, read-in-order, zeros-tidy, tidy-over, header-alone, header-tidy}
+use Rattle.lists.specs.ListsLent.{listWords}
+use Rattle.lists.proofs.Tidy.{list-padded}
+use Rattle.header.specs.Short.{HeaderWords, zeros, Tidy, headerAlone}
+use Rattle.header.proofs.Tidy.{InOrder, operationsIf-ok, read-in-order, zeros-tidy, tidy-over, header-alone, header-tidy}
 use Rattle.unit.specs.declared.answer.UnitAnswer.{UnitAnswer}
 use Rattle.unit.specs.declared.answer.UnitRead.{UnitRead}
 use Rattle.unit.specs.declared.begin.Begun.{Begun}

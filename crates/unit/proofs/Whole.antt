@@ -4,7 +4,7 @@ use mathlib.Core.Path.{_≡_, refl, sym, _∙_}
 use mathlib.Core.List.{List}
 use lib.ListN.{replicate}
 use Rattle.table.specs.declared.table.Table.{Table}
-use Rattle.short.specs.Short.{emptied, zeros}
+use Rattle.header.specs.Short.{emptied, zeros}
 use Rattle.record.specs.Record.{headerFrom, prefixFrom}
 use Rattle.record.proofs.Whole.{zeros-sized, emptied-sized, header-from-zeros, from-in, prefix-from-zeros, prefix-from}
 use Rattle.unit.specs.declared.answer.UnitAnswer.{UnitAnswer}

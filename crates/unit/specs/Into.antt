@@ -7,12 +7,12 @@ use lib.ListN.{replicate}
 use lib.Seq.{sets}
 use denote.Ref.{now}
 use denote.Triple.Both.{Both}
-use Rattle.codes.specs.declared.step.End.{End}
+use Rattle.fields.specs.declared.step.End.{End}
 use Rattle.syntax.specs.Absent.{noPrefix}
-use Rattle.words.specs.declared.list_words.PrefixShort.{PrefixShort}
-use Rattle.words.specs.declared.list_words.PrefixStep.{PrefixStep}
-use Rattle.words.specs.ListsLent.{listWords, prefixShort}
-use Rattle.short.specs.Short.{HeaderWords, Array, headerWords, emptied, headerIn, zeros}
+use Rattle.lists.specs.declared.list_words.PrefixShort.{PrefixShort}
+use Rattle.lists.specs.declared.list_words.PrefixStep.{PrefixStep}
+use Rattle.lists.specs.ListsLent.{listWords, prefixShort}
+use Rattle.header.specs.Short.{HeaderWords, Array, headerWords, emptied, headerIn, zeros}
 use Rattle.unit.specs.declared.answer.UnitAnswer.{UnitAnswer}
 use Rattle.unit.specs.declared.answer.UnitRead.{UnitRead}
 use Rattle.unit.specs.declared.into.ShortAnswer.{ShortAnswer}

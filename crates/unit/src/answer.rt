@@ -4,10 +4,10 @@ use bits::refusals::Refusal;
 use syntax::marks::MarkedFlag;
 use syntax::record::Prefix;
 use syntax::record::SliceHeader;
-use words::list_words::PrefixShort;
+use lists::list_words::PrefixShort;
 ghost use mathlib.Core.Path.{_≡_};
 ghost use Rattle.syntax.specs.Absent.{noPrefix};
-ghost use Rattle.words.specs.ListsLent.{prefixShort};
+ghost use Rattle.lists.specs.ListsLent.{prefixShort};
 ghost use Rattle.unit.specs.Into.{longAnswer, prefixIn};
 
 pub enum UnitAnswer {

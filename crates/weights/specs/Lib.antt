@@ -1,3 +1,4 @@
 pub mod Counts
 pub mod Halves
 pub mod Steps
+pub mod WeightsLent

@@ -16,7 +16,7 @@ use Rattle.syntax.specs.declared.record.SliceHeader.{SliceHeader}
 use Rattle.syntax.specs.SliceHeader.{anySet}
 use Rattle.syntax.proofs.Header as syntax
 use Rattle.syntax.specs.Absent.{noPrefix}
-use Rattle.short.specs.Short.{HeaderWords, emptied, headerIn, Tidy}
+use Rattle.header.specs.Short.{HeaderWords, emptied, headerIn, Tidy}
 use Rattle.record.specs.Record.{headerFrom, plain}
 use Rattle.record.proofs.Whole.{Sized, header-from-in, plain-in, in-from-emptied, emptied-sized}
 use Rattle.unit.specs.declared.answer.UnitAnswer.{UnitAnswer}

@@ -21,7 +21,7 @@ use Rattle.syntax.specs.declared.record.Operations.{Operations}
 use Rattle.syntax.specs.declared.record.WeightList.{WeightList}
 use Rattle.syntax.proofs.Operations.{of-to-operations, ok-to-operations, length-of-operations}
 use Rattle.weights.specs.Counts.{atMost32}
-use Rattle.words.specs.ListsLent.{atMost66}
+use Rattle.lists.specs.ListsLent.{atMost66}
 use Rattle.record.specs.Entries.{operationsIn, operationsFrom, weightFrom, weightsIn, weightsFrom}
 use Rattle.record.proofs.Taken.{taken, length-taken, operations-taken, weights-taken}
 

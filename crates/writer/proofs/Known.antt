@@ -31,7 +31,7 @@ use Rattle.syntax.specs.SliceHeader.{pictureSetId, lead, ofHeader, header}
 use Rattle.syntax.proofs.Sizes.{then, sliceType-short}
 use Rattle.syntax.proofs.Sets.{Few, defaults-few}
 use Rattle.syntax.proofs.HeaderSize.{parts-short}
-use Rattle.short.specs.Short.{HeaderWords}
+use Rattle.header.specs.Short.{HeaderWords}
 use Rattle.record.specs.Record.{headerFrom, plainNumbers, plain}
 use Rattle.writer.specs.declared.sets.SetsFor.{SetsFor}
 use Rattle.writer.specs.Write.{withPicture, withSequence, setsFor, HeaderOut, untouched, outOf, bitsOut}

@@ -19,7 +19,7 @@ use Rattle.syntax.specs.declared.record.Quantiser.{Quantiser}
 use Rattle.syntax.specs.declared.record.Filter.{Filter}
 use Rattle.syntax.specs.declared.record.SliceHeader.{SliceHeader}
 use Rattle.syntax.specs.SliceHeader.{sliceType, modifications, predWeightTable, decRefPicMarking, quantiser, filter, Parts, parts, ofHeader}
-use Rattle.short.specs.Short.{HeaderWords}
+use Rattle.header.specs.Short.{HeaderWords}
 use Rattle.record.specs.Record.{headerFrom, plain}
 use Rattle.writer.specs.declared.write.HeaderWrote.{HeaderWrote}
 use Rattle.writer.specs.Write.{HeaderOut, untouched, outOf}

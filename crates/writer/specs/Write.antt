@@ -17,7 +17,7 @@ use Rattle.table.specs.Tables.{pictureAt, sequenceAt}
 use Rattle.syntax.specs.declared.context.UnitKind.{UnitKind}
 use Rattle.syntax.specs.declared.record.SliceHeader.{SliceHeader}
 use Rattle.syntax.specs.SliceHeader.{header}
-use Rattle.short.specs.Short.{HeaderWords}
+use Rattle.header.specs.Short.{HeaderWords}
 use Rattle.record.specs.Record.{headerFrom, plain}
 use Rattle.writer.specs.declared.given.ExtensionGiven.{ExtensionGiven}
 use Rattle.writer.specs.declared.given.KindGiven.{KindGiven}

@@ -7,7 +7,7 @@ use bits::refusals::ALPHA_OFFSET;
 use bits::refusals::BETA_OFFSET;
 use bits::refusals::DEBLOCKING_IDC;
 use bits::width::change_cycle_width;
-use codes::conditions::both;
+use fields::conditions::both;
 use syntax::context::Context;
 use syntax::record::Filter;
 ghost use Rattle.syntax.specs.SliceHeader.{filter};

@@ -4,7 +4,7 @@ use bits::refusals::NOT_A_SLICE;
 use bits::refusals::Refusal;
 use bits::refusals::SCALABLE;
 use bits::refusals::refuse;
-use codes::conditions::either;
+use fields::conditions::either;
 use header::kinds::kind_of;
 use nal::extension::NalHeaderExtension;
 use nal::extension::NalHeaderMvcExtension;

@@ -3,7 +3,7 @@ use crate::marks::flag_of;
 use crate::marks::put_flag_if;
 use crate::operations::put_operations_if;
 use bits::read::Cursor;
-use codes::conditions::both;
+use fields::conditions::both;
 use lists::marking::marking_kind;
 use syntax::context::Context;
 ghost use Prim.Native.Nat.{_≤_};

@@ -6,7 +6,7 @@ use crate::marks::put_number_if;
 use crate::marks::put_signed_if;
 use crate::places::NOWHERE;
 use bits::read::Cursor;
-use codes::conditions::both;
+use fields::conditions::both;
 use syntax::context::Context;
 use syntax::record::Deltas;
 use syntax::record::OrderCount;

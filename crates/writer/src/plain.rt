@@ -1,6 +1,6 @@
 // Whether words hold a record: marks and flags are 0 or 1, and no count is over its list's capacity.
-use codes::conditions::both;
-use codes::conditions::either;
+use fields::conditions::both;
+use fields::conditions::either;
 use record::plain::is_plain_numbers;
 ghost use mathlib.Core.Bool.{_&&_};
 ghost use mathlib.Core.Path.{_≡_};

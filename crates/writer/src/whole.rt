@@ -24,7 +24,7 @@ ghost use mathlib.Core.Bool.{true};
 ghost use mathlib.Core.Path.{_≡_};
 ghost use Prim.Native.Nat.{_≤_};
 ghost use Rattle.syntax.specs.SliceHeader.{activeOf, ofHeader};
-ghost use Rattle.short.specs.Short.{headerWords};
+ghost use Rattle.header.specs.Short.{headerWords};
 ghost use Rattle.record.specs.Fields.{numberIn};
 ghost use Rattle.record.specs.Record.{plainNumbers, headerFrom};
 ghost use Rattle.writer.specs.Places.{PutTo};

@@ -4,8 +4,8 @@ use native.Mathlib.Omega.{arith}
 use lib.Seq.{length-take-le}
 use Rattle.table.proofs.Tests.{held}
 use Rattle.lines.proofs.Texts.{same-line}
-use Rattle.listed.specs.declared.step.State.{State}
-use Rattle.listed.proofs.Turns.{goes-on}
+use Rattle.list_steps.specs.declared.step.State.{State}
+use Rattle.list_steps.proofs.Turns.{goes-on}
 use Prim.Native.Nat.{_≤_, _-_}
 use lib.ListN.{length}
 use Rattle.listing.proofs.print.Statement.{statement}

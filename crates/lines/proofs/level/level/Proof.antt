@@ -1,4 +1,4 @@
-use Rattle.codes.proofs.Sums.{wide-fits, first-fits, sum-fits, sum-is}
+use Rattle.fields.proofs.Sums.{wide-fits, first-fits, sum-fits, sum-is}
 use Rattle.lines.proofs.level.level.Statement.{statement}
 use Rattle.lines.proofs.level.level.Tie as tie
 

@@ -1,7 +1,7 @@
 use borrow.Author.Needs.{needs}
 use Prim.Native.Nat.{_≤_, _-_}
 use Rattle.record.proofs.Taken.{Loaded, none-loaded, one-loaded, all-loaded}
-use Rattle.words.proofs.Emptied.{at-most-66}
+use Rattle.lists.proofs.Emptied.{at-most-66}
 use mathlib.Core.Path.{_≡_}
 use native.Mathlib.Omega.{arith}
 use Rattle.record.proofs.entries.operations_of.Statement.{statement}

@@ -1,5 +1,5 @@
 use native.Mathlib.Omega.{arith}
-use Rattle.codes.proofs.Cases.{wide-same}
+use Rattle.fields.proofs.Cases.{wide-same}
 use borrow.Author.Needs.{needs}
 use Rattle.writer.proofs.marks.four_more.Statement.{statement}
 use Rattle.writer.proofs.marks.four_more.Tie as tie

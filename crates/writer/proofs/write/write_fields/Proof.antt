@@ -2,7 +2,7 @@ use Prim.Native.Nat.{ℕ, _<_}
 use mathlib.Core.Path.{_≡_, refl, _∙_}
 use native.Mathlib.Omega.{arith}
 use lib.ListN.{length, replicate, length-replicate}
-use Rattle.short.specs.Short.{HeaderWords}
+use Rattle.header.specs.Short.{HeaderWords}
 use Rattle.record.specs.Record.{headerFrom}
 use Rattle.writer.specs.Places.{nowhere}
 use Rattle.writer.proofs.Known.{fields-done}

@@ -1,6 +1,6 @@
 use mathlib.Core.Path.{_≡_, refl, sym, _∙_}
 use borrow.Author.Tests.{not-true, not-false}
-use Rattle.short.specs.Short.{HeaderWords}
+use Rattle.header.specs.Short.{HeaderWords}
 use Rattle.record.specs.Record.{plain, headerFrom}
 use Rattle.writer.proofs.Known.{fitting, fitting-numbers, known-other, known-fields}
 use borrow.Author.Needs.{needs}

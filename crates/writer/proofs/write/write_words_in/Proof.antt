@@ -2,7 +2,7 @@ use mathlib.Core.Path.{_≡_, refl, sym, _∙_}
 use lib.ListN.{getD}
 use Rattle.header.specs.Lead.{tableOf}
 use Rattle.record.specs.Record.{headerFrom}
-use Rattle.short.specs.Short.{HeaderWords}
+use Rattle.header.specs.Short.{HeaderWords}
 use Rattle.writer.specs.Write.{writeWhere, writeWords}
 use Rattle.writer.proofs.Known.{known-few, known-out}
 use borrow.Author.Needs.{needs}

@@ -1,0 +1,54 @@
+use Prim.Native.Nat.{_<_, _^_}
+use mathlib.Core.Path.{ap}
+use native.Mathlib.Omega.{arith}
+use mir.Facts.{toZ-pos}
+use mir.Syntax.{w64}
+use borrow.Author.Tests.{le-leb, lt-leb}
+use Rattle.bits.specs.Answers.{asRead}
+use Rattle.fmt.specs.Leaves.{ue}
+use Rattle.fields.proofs.Cases.{test-none, test-pass, test-fail}
+use borrow.Author.Needs.{needs}
+use Rattle.fields.proofs.read.tested.Statement.{statement}
+use Rattle.fields.proofs.read.tested.Tie as tie
+
+ue-requires : tie.Need-ue-requires
+ue-requires c κs = search needs
+
+enum-known-a : tie.Need-enum-known-a
+enum-known-a c = search needs
+
+enum-told : tie.Need-enum-told
+enum-told c = search needs
+
+returns : tie.Need-returns
+unfolding ue
+returns c = test-none _ _ _ _ _ _ (c .before .before .ue .ensures) (ap asRead (c .enum-told .given .1))
+
+cast-refuse : tie.Need-cast-refuse
+cast-refuse c = search needs
+
+refuse-requires : tie.Need-refuse-requires
+refuse-requires c κs = search needs
+
+returns-2 : tie.Need-returns-2
+unfolding ue
+returns-2 c = test-pass _ _ _ _ _ _ (c .before .before .before .before .ue .ensures) (ap asRead (c .before .before .a .given .1)) (le-leb _ _ (c .if1 .taken))
+
+returns-3 : tie.Need-returns-3
+unfolding ue
+returns-3 c =
+    let k : c .before .before .before .a .given .0 .0 < 2 ^ 63 = omega arith in
+    test-fail _ _ _ _ _ _ (c .before .before .before .before .before .ue .ensures) (ap asRead (c .before .before .before .a .given .1)) (lt-leb _ _ (c .before .if1 .left)) (rw (toZ-pos w64 k) at (c .refuse .ensures))
+
+pub tested-spec : {M : Type 1} → statement M
+tested-spec =
+    tie.close
+    (tie.spec
+    ue-requires
+    enum-known-a
+    enum-told
+    returns
+    cast-refuse
+    refuse-requires
+    returns-2
+    returns-3)

@@ -1,0 +1,100 @@
+// Answers: a marked field and the moved cursor, or the refusal.
+use bits::read::Cursor;
+use bits::refusals::Refusal;
+use syntax::marks::MarkedFlag;
+use syntax::marks::MarkedNumber;
+use syntax::marks::MarkedSigned;
+ghost use mathlib.Core.Path.{_≡_};
+ghost use Rattle.fields.specs.Steps.{whyNumber, whySigned, whyFlag, whyGiven, whyEnd};
+
+pub enum NumberStep {
+    Got(MarkedNumber, Cursor),
+    Refused(Refusal),
+}
+
+pub enum SignedStep {
+    Got(MarkedSigned, Cursor),
+    Refused(Refusal),
+}
+
+pub enum FlagStep {
+    Got(MarkedFlag, Cursor),
+    Refused(Refusal),
+}
+
+// A signed value that has no mark, in a struct, so that a stage's pattern binds it whole.
+pub struct Signed {
+    pub value: i32,
+}
+
+pub enum SignedGiven {
+    Got(Signed, Cursor),
+    Refused(Refusal),
+}
+
+// Where reading a part that holds arrays ended; the part stands beside it.
+pub enum End {
+    At(Cursor),
+    Refused(Refusal),
+}
+
+// The refusal of an answer that is one, for a `let .. else`, which cannot bind it.
+pub fn why_number(a: NumberStep) -> Refusal
+    ensures { λ r. ⌜ r ≡ whyNumber a ⌝ }
+{
+    match a {
+        NumberStep::Got(_, _) => Refusal {
+            number: 0,
+            value: 0,
+        },
+        NumberStep::Refused(r) => r,
+    }
+}
+
+pub fn why_signed(a: SignedStep) -> Refusal
+    ensures { λ r. ⌜ r ≡ whySigned a ⌝ }
+{
+    match a {
+        SignedStep::Got(_, _) => Refusal {
+            number: 0,
+            value: 0,
+        },
+        SignedStep::Refused(r) => r,
+    }
+}
+
+pub fn why_flag(a: FlagStep) -> Refusal
+    ensures { λ r. ⌜ r ≡ whyFlag a ⌝ }
+{
+    match a {
+        FlagStep::Got(_, _) => Refusal {
+            number: 0,
+            value: 0,
+        },
+        FlagStep::Refused(r) => r,
+    }
+}
+
+pub fn why_given(a: SignedGiven) -> Refusal
+    ensures { λ r. ⌜ r ≡ whyGiven a ⌝ }
+{
+    match a {
+        SignedGiven::Got(_, _) => Refusal {
+            number: 0,
+            value: 0,
+        },
+        SignedGiven::Refused(r) => r,
+    }
+}
+
+pub fn why_end(a: End) -> Refusal
+    ensures { λ r. ⌜ r ≡ whyEnd a ⌝ }
+{
+    match a {
+        End::At(_) => Refusal {
+            number: 0,
+            value: 0,
+        },
+        End::Refused(r) => r,
+    }
+}

@@ -1,0 +1,77 @@
+use borrow.Author.Needs.{needs}
+use mathlib.Core.Path.{sym, ap, _∙_}
+use Rattle.bits.specs.Bits.{bitsOf}
+use Rattle.header.specs.Lead.{asLead, tableOf}
+use Rattle.header.specs.Stages.{asFront}
+use Rattle.header.proofs.Told.{filled-no, filled-as}
+use Rattle.header.proofs.Parts.{lead-no, front-no, front-read}
+use Rattle.header.proofs.slice.fill.Statement.{statement}
+use Rattle.header.proofs.slice.fill.Tie as tie
+
+lead-requires : tie.Need-lead-requires
+lead-requires c κs = search needs
+
+enum-known-a1 : tie.Need-enum-known-a1
+enum-known-a1 c = search needs
+
+enum-told : tie.Need-enum-told
+enum-told c = search needs
+
+why-lead-requires : tie.Need-why-lead-requires
+why-lead-requires c κs = search needs
+
+returns : tie.Need-returns
+returns c =
+    let t = tableOf (c .before .before .before .before .before .args .sequences .now) (c .before .before .before .before .before .args .pictures .now) in
+    let s = bitsOf (c .before .before .before .before .before .args .s .now) in
+    let hl = sym (c .before .before .before .lead .ensures) ∙ ap asLead (c .before .enum-told .given .1) in
+    filled-no _ _ (lead-no t (c .before .before .before .before .before .args .kind) s hl) (rw (c .why-lead .ensures, c .before .enum-told .given .1))
+
+front-requires : tie.Need-front-requires
+front-requires c κs = search needs
+
+enum-known-a2 : tie.Need-enum-known-a2
+enum-known-a2 c = search needs
+
+enum-told-2 : tie.Need-enum-told-2
+enum-told-2 c = search needs
+
+why-front-requires : tie.Need-why-front-requires
+why-front-requires c κs = search needs
+
+returns-2 : tie.Need-returns-2
+returns-2 c =
+    let t = tableOf (c .before .before .before .before .before .before .before .before .before .before .before .args .sequences .now) (c .before .before .before .before .before .before .before .before .before .before .before .args .pictures .now) in
+    let s = bitsOf (c .before .before .before .before .before .before .before .before .before .before .before .args .s .now) in
+    let hl = sym (c .before .before .before .before .before .before .before .before .before .lead .ensures) ∙ ap asLead (c .before .before .before .before .before .before .before .a1 .given .1) in
+    let hf = sym (c .before .before .before .front .ensures) ∙ ap asFront (c .before .enum-told2 .given .1) in
+    filled-no _ _ (front-no t (c .before .before .before .before .before .before .before .before .before .before .before .args .kind) s hl hf) (rw (c .why-front .ensures, c .before .enum-told2 .given .1))
+
+behind-requires : tie.Need-behind-requires
+behind-requires c κs = search needs
+
+returns-3 : tie.Need-returns-3
+returns-3 c =
+    let a = c .before .before .before .before .before .before .before .before .before .before .before .before .before .before .before .before .before .before .before .args in
+    let t = tableOf (a .sequences .now) (a .pictures .now) in
+    let s = bitsOf (a .s .now) in
+    let hl = sym (c .before .before .before .before .before .before .before .before .before .before .before .before .before .before .before .before .before .lead .ensures) ∙ ap asLead (c .before .before .before .before .before .before .before .before .before .before .before .before .before .before .before .a1 .given .1) in
+    let hf = sym (c .before .before .before .before .before .before .before .before .before .before .before .front .ensures) ∙ ap asFront (c .before .before .before .before .before .before .before .before .before .a2 .given .1) in
+    filled-as _ _ _ (front-read t (a .kind) s hl hf) (c .behind .ensures)
+
+pub fill-spec : {M : Type 1} → statement M
+fill-spec =
+    tie.close
+    (tie.spec
+    lead-requires
+    enum-known-a1
+    enum-told
+    why-lead-requires
+    returns
+    front-requires
+    enum-known-a2
+    enum-told-2
+    why-front-requires
+    returns-2
+    behind-requires
+    returns-3)

@@ -1,0 +1,71 @@
+use borrow.Author.Needs.{needs}
+use mathlib.Core.Path.{sym, ap, _∙_}
+use Rattle.header.specs.Stages.{asMarking}
+use Rattle.header.specs.declared.slice.Marks.{Marks}
+use Rattle.header.specs.declared.slice.MarksStep.{MarksStep}
+use Rattle.lists.proofs.Lent.{list-read, list-refused}
+use Rattle.header.proofs.Told.{told-marks-no, told-marks}
+use Rattle.header.proofs.Lists.{flags-no, marking-no, marking-read, marks-same}
+use Rattle.header.proofs.slice.marks_into.Statement.{statement}
+use Rattle.header.proofs.slice.marks_into.Tie as tie
+
+marking-flags-requires : tie.Need-marking-flags-requires
+marking-flags-requires c κs = search needs
+
+enum-known-a1 : tie.Need-enum-known-a1
+enum-known-a1 c = search needs
+
+enum-told : tie.Need-enum-told
+enum-told c = search needs
+
+why-marking-requires : tie.Need-why-marking-requires
+why-marking-requires c κs = search needs
+
+returns : tie.Need-returns
+returns c =
+    let hm = sym (c .before .before .before .marking-flags .ensures) ∙ ap asMarking (c .before .enum-told .given .1) in
+    told-marks-no _ _ (flags-no _ _ _ hm) (rw (c .why-marking .ensures, c .before .enum-told .given .1))
+
+marking-kind-requires : tie.Need-marking-kind-requires
+marking-kind-requires c κs = search needs
+
+operations-into-requires : tie.Need-operations-into-requires
+operations-into-requires c κs = search needs
+
+enum-known-a2 : tie.Need-enum-known-a2
+enum-known-a2 c = search needs
+
+enum-told-2 : tie.Need-enum-told-2
+enum-told-2 c = search needs
+
+why-list-requires : tie.Need-why-list-requires
+why-list-requires c κs = search needs
+
+returns-2 : tie.Need-returns-2
+returns-2 c =
+    let hm = sym (c .before .before .before .before .before .before .before .before .before .before .marking-flags .ensures) ∙ ap asMarking (c .before .before .before .before .before .before .before .before .a1 .given .1) in
+    let hq = list-refused _ (rw (c .before .before .before .before .before .marking-kind .ensures) at (c .before .before .before .operations-into .ensures .0)) (c .before .enum-told2 .given .1) in
+    told-marks-no _ _ (marking-no _ _ _ hm hq) (rw (c .why-list .ensures, c .before .enum-told2 .given .1))
+
+returns-3 : tie.Need-returns-3
+returns-3 c =
+    let hm = sym (c .before .before .before .before .before .before .before .before .before .before .marking-flags .ensures) ∙ ap asMarking (c .before .before .before .before .before .before .before .before .a1 .given .1) in
+    let lq = list-read _ (rw (c .before .before .before .before .before .marking-kind .ensures) at (c .before .before .before .operations-into .ensures .0)) (rw (c .before .before .before .before .before .marking-kind .ensures) at (c .before .before .before .operations-into .ensures .1)) (c .before .a2 .given .1) in
+    told-marks _ (marking-read _ _ _ hm (lq .read)) (ap (λ (k : Marks). MarksStep.Got k (c .before .a2 .given .0 .1 .0)) (marks-same (lq .list) (lq .counted))) (lq .held)
+
+pub marks-into-spec : {M : Type 1} → statement M
+marks-into-spec =
+    tie.close
+    (tie.spec
+    marking-flags-requires
+    enum-known-a1
+    enum-told
+    why-marking-requires
+    returns
+    marking-kind-requires
+    operations-into-requires
+    enum-known-a2
+    enum-told-2
+    why-list-requires
+    returns-2
+    returns-3)

@@ -1,0 +1,407 @@
+// The header read into lent words: its fields in two arrays, one of numbers and flags and one of signed numbers, and each list in an array of its own. A record
+// handed back by value would be copied by every function on its way.
+use crate::fields::MARKINGS;
+use crate::fields::MODIFICATIONS_L0;
+use crate::fields::MODIFICATIONS_L1;
+use crate::fields::WEIGHTS_L0;
+use crate::fields::WEIGHTS_L1;
+use crate::fields::lay;
+use bits::read::Cursor;
+use bits::refusals::NOTHING_FOLLOWS;
+use bits::refusals::Refusal;
+use bits::refusals::refuse;
+use fields::conditions::B;
+use fields::conditions::is_type;
+use fields::read::flag_if;
+use fields::step::End;
+use fields::step::FlagStep;
+use fields::step::why_flag;
+use crate::follows::any_set_after;
+use crate::lead::LeadStep;
+use crate::lead::Led;
+use crate::lead::lead;
+use crate::lead::why_lead;
+use crate::stages::BackStep;
+use crate::stages::FrontParts;
+use crate::stages::FrontStep;
+use crate::stages::MarkingFlags;
+use crate::stages::MarkingStep;
+use crate::stages::active;
+use crate::stages::back;
+use crate::stages::first_flag;
+use crate::stages::front;
+use crate::stages::marking_flags;
+use crate::stages::why_back;
+use crate::stages::why_front;
+use crate::stages::why_marking;
+use lists::marking::marking_kind;
+use lists::modification::modification_kind;
+use syntax::context::Context;
+use syntax::context::UnitKind;
+use syntax::marks::MarkedFlag;
+use syntax::record::ActiveCounts;
+use syntax::record::Filter;
+use syntax::record::Frame;
+use syntax::record::OrderCount;
+use syntax::record::Quantiser;
+use lists::list_words::ListStep;
+use lists::list_words::clear_list;
+use lists::list_words::empty_list;
+use lists::list_words::operations_into;
+use lists::list_words::why_list;
+use weights::weight_words::WeightsShort;
+use weights::weight_words::WeightsStep;
+use weights::weight_words::clear_weights;
+use weights::weight_words::empty_weights;
+use weights::weight_words::weights_into;
+use weights::weight_words::why_weights;
+ghost use mathlib.Core.Path.{_≡_};
+ghost use Rattle.bits.specs.Bits.{bitsOf};
+ghost use Rattle.syntax.specs.SliceHeader.{readHeader, modifications, predWeightTable, decRefPicMarking, activeL0, activeL1};
+ghost use Rattle.weights.specs.Counts.{atMost32};
+ghost use Rattle.header.specs.Lead.{tableOf};
+ghost use Rattle.weights.specs.WeightsLent.{weightsStep, weightsLeft};
+ghost use Rattle.header.specs.Short.{headerWords, emptied, zeros, headerEnd, headerLeft};
+ghost use Rattle.header.specs.Told.{ListsTold, MarksTold, Filled, behind, whyLists, whyMarks};
+
+// The header's record without its lists. Of each list it has the count: how many entries of the lent words are used.
+#[repr(C)]
+pub struct HeaderShort {
+    pub first_mb_in_slice: u32,
+    pub slice_type: u32,
+    pub pic_parameter_set_id: u32,
+    pub seq_parameter_set_id: u32,
+    pub frame: Frame,
+    pub order_count: OrderCount,
+    pub active_counts: ActiveCounts,
+    pub ref_pic_list_modification_flag_l0: MarkedFlag,
+    pub modifications_l0: u32,
+    pub ref_pic_list_modification_flag_l1: MarkedFlag,
+    pub modifications_l1: u32,
+    pub weights: WeightsShort,
+    pub no_output_of_prior_pics_flag: MarkedFlag,
+    pub long_term_reference_flag: MarkedFlag,
+    pub adaptive_ref_pic_marking_mode_flag: MarkedFlag,
+    pub markings: u32,
+    pub quantiser: Quantiser,
+    pub filter: Filter,
+}
+
+// ref_pic_list_modification( ) without its lists
+pub(crate) struct Lists {
+    pub(crate) flag0: MarkedFlag,
+    pub(crate) count0: u32,
+    pub(crate) flag1: MarkedFlag,
+    pub(crate) count1: u32,
+}
+
+// The refusal first, as in `LeadStep`.
+pub(crate) enum ListsStep {
+    Refused(Refusal),
+    Got(Lists, Cursor),
+}
+
+// dec_ref_pic_marking( ) without its list
+pub(crate) struct Marks {
+    pub(crate) flags: MarkingFlags,
+    pub(crate) count: u32,
+}
+
+// The refusal first, as in `LeadStep`.
+pub(crate) enum MarksStep {
+    Refused(Refusal),
+    Got(Marks, Cursor),
+}
+
+fn why_lists(a: ListsStep) -> Refusal
+    ensures { λ r. ⌜ r ≡ whyLists a ⌝ }
+{
+    match a {
+        ListsStep::Got(_, _) => Refusal {
+            number: 0,
+            value: 0,
+        },
+        ListsStep::Refused(r) => r,
+    }
+}
+
+fn why_marks(a: MarksStep) -> Refusal
+    ensures { λ r. ⌜ r ≡ whyMarks a ⌝ }
+{
+    match a {
+        MarksStep::Got(_, _) => Refusal {
+            number: 0,
+            value: 0,
+        },
+        MarksStep::Refused(r) => r,
+    }
+}
+
+// The private stages say nothing of the words beside a refusal: `read_header_into` clears them.
+fn lists_into(
+    s: &[u8],
+    c: Cursor,
+    x: Context,
+    slice_type: u32,
+    l0: &mut [u32; 198],
+    l1: &mut [u32; 198],
+) -> ListsStep
+    ensures { λ r. ⌜ ListsTold (modifications x «slice_type» .read (bitsOf (now (s .entry))) (c .at)) r (now (l0 .entry)) (now (l1 .entry)) (now (l0 .exit)) (now (l1 .exit)) ⌝ }
+{
+    let a1 = first_flag(s, c, x, slice_type);
+    let FlagStep::Got(flag0, c1) = a1 else {
+        return ListsStep::Refused(why_flag(a1));
+    };
+    let codes = modification_kind(x.kind.mvc);
+    let a2 = operations_into(s, c1, flag0.value, codes, l0);
+    let ListStep::Got(count0, c2) = a2 else {
+        return ListsStep::Refused(why_list(a2));
+    };
+    let a3 = flag_if(s, c2, is_type(slice_type, B));
+    let FlagStep::Got(flag1, c3) = a3 else {
+        return ListsStep::Refused(why_flag(a3));
+    };
+    let a4 = operations_into(s, c3, flag1.value, codes, l1);
+    let ListStep::Got(count1, c4) = a4 else {
+        return ListsStep::Refused(why_list(a4));
+    };
+    ListsStep::Got(
+        Lists {
+            flag0,
+            count0,
+            flag1,
+            count1,
+        },
+        c4,
+    )
+}
+
+fn marks_into(s: &[u8], c: Cursor, x: Context, words: &mut [u32; 198]) -> MarksStep
+    ensures { λ r. ⌜ MarksTold (decRefPicMarking x .read (bitsOf (now (s .entry))) (c .at)) r (now (words .entry)) (now (words .exit)) ⌝ }
+{
+    let a1 = marking_flags(s, c, x);
+    let MarkingStep::Got(flags, c1) = a1 else {
+        return MarksStep::Refused(why_marking(a1));
+    };
+    let adaptive = flags.adaptive_ref_pic_marking_mode_flag;
+    let a2 = operations_into(s, c1, adaptive.value, marking_kind(), words);
+    let ListStep::Got(count, c2) = a2 else {
+        return MarksStep::Refused(why_list(a2));
+    };
+    MarksStep::Got(Marks { flags, count }, c2)
+}
+
+fn weights_for_into(
+    s: &[u8],
+    c: Cursor,
+    x: Context,
+    slice_type: u32,
+    a: ActiveCounts,
+    w0: &mut [i32; 256],
+    w1: &mut [i32; 256],
+) -> WeightsStep
+    ensures { λ r. ⌜ r ≡ weightsStep (predWeightTable x «slice_type» (atMost32 (activeL0 x a)) (atMost32 (activeL1 x a)) .read (bitsOf (now (s .entry))) (c .at)) ⌝ }
+    ensures { λ r. ⌜ now (w0 .exit) ≡ weightsLeft (λ t. t .l0) (predWeightTable x «slice_type» (atMost32 (activeL0 x a)) (atMost32 (activeL1 x a)) .read (bitsOf (now (s .entry))) (c .at)) (now (w0 .entry)) ⌝ }
+    ensures { λ r. ⌜ now (w1 .exit) ≡ weightsLeft (λ t. t .l1) (predWeightTable x «slice_type» (atMost32 (activeL0 x a)) (atMost32 (activeL1 x a)) .read (bitsOf (now (s .entry))) (c .at)) (now (w1 .entry)) ⌝ }
+{
+    let n0 = active(
+        a.num_ref_idx_l0_active_minus1,
+        x.picture.num_ref_idx_l0_default_active_minus1,
+    );
+    let n1 = active(
+        a.num_ref_idx_l1_active_minus1,
+        x.picture.num_ref_idx_l1_default_active_minus1,
+    );
+    weights_into(s, c, x, slice_type, n0, n1, w0, w1)
+}
+
+// What follows num_ref_idx_l1_active_minus1. A function of its own, so that no stage stands behind many tests: the compiler takes what does for rare, and neither
+// inlines it nor keeps its values in registers.
+fn behind(
+    s: &[u8],
+    c: Cursor,
+    kind: UnitKind,
+    l: Led,
+    f: FrontParts,
+    numbers: &mut [u32; 57],
+    signed: &mut [i32; 7],
+    l0: &mut [u32; 198],
+    l1: &mut [u32; 198],
+    marking: &mut [u32; 198],
+    w0: &mut [i32; 256],
+    w1: &mut [i32; 256],
+) -> End
+    ensures { λ r. ⌜ Filled (behind kind l f (bitsOf (now (s .entry))) (c .at)) r (headerWords numbers signed l0 l1 marking w0 w1 .entry) (headerWords numbers signed l0 l1 marking w0 w1 .exit) ⌝ }
+{
+    let picture = l.picture;
+    let sequence = l.sequence;
+    let x = Context {
+        kind,
+        picture,
+        sequence,
+    };
+    let a3 = lists_into(s, c, x, l.slice_type, l0, l1);
+    let ListsStep::Got(o, c3) = a3 else {
+        return End::Refused(why_lists(a3));
+    };
+    let active_counts = f.active_counts;
+    let a4 = weights_for_into(s, c3, x, l.slice_type, active_counts, w0, w1);
+    let WeightsStep::Got(weights, c4) = a4 else {
+        return End::Refused(why_weights(a4));
+    };
+    let a5 = marks_into(s, c4, x, marking);
+    let MarksStep::Got(m, c5) = a5 else {
+        return End::Refused(why_marks(a5));
+    };
+    let a6 = back(s, c5, x, l.slice_type);
+    let BackStep::Got(b, c6) = a6 else {
+        return End::Refused(why_back(a6));
+    };
+    if !any_set_after(s, c6.at) {
+        return End::Refused(refuse(NOTHING_FOLLOWS, 0, c6.at));
+    }
+    let frame = f.frame;
+    let order_count = f.order_count;
+    let flag0 = o.flag0;
+    let flag1 = o.flag1;
+    let flags = m.flags;
+    let no_output = flags.no_output_of_prior_pics_flag;
+    let long_term = flags.long_term_reference_flag;
+    let adaptive = flags.adaptive_ref_pic_marking_mode_flag;
+    let quantiser = b.quantiser;
+    let filter = b.filter;
+    let h = HeaderShort {
+        first_mb_in_slice: l.first_mb_in_slice,
+        slice_type: l.slice_type,
+        pic_parameter_set_id: l.pic_parameter_set_id,
+        seq_parameter_set_id: picture.seq_parameter_set_id,
+        frame,
+        order_count,
+        active_counts,
+        ref_pic_list_modification_flag_l0: flag0,
+        modifications_l0: o.count0,
+        ref_pic_list_modification_flag_l1: flag1,
+        modifications_l1: o.count1,
+        weights,
+        no_output_of_prior_pics_flag: no_output,
+        long_term_reference_flag: long_term,
+        adaptive_ref_pic_marking_mode_flag: adaptive,
+        markings: m.count,
+        quantiser,
+        filter,
+    };
+    lay(h, numbers, signed);
+    End::At(c6)
+}
+
+fn fill<'a>(
+    s: &'a [u8],
+    kind: UnitKind,
+    sequences: &'a [u32; 224],
+    pictures: &'a [u32; 2048],
+    numbers: &mut [u32; 57],
+    signed: &mut [i32; 7],
+    l0: &mut [u32; 198],
+    l1: &mut [u32; 198],
+    marking: &mut [u32; 198],
+    w0: &mut [i32; 256],
+    w1: &mut [i32; 256],
+) -> End
+    ensures { λ r. ⌜ Filled (readHeader (tableOf (now (sequences .entry)) (now (pictures .entry))) kind (bitsOf (now (s .entry)))) r (headerWords numbers signed l0 l1 marking w0 w1 .entry) (headerWords numbers signed l0 l1 marking w0 w1 .exit) ⌝ }
+{
+    let a1 = lead(s, Cursor { at: 0 }, sequences, pictures);
+    let LeadStep::Got(l, c1) = a1 else {
+        return End::Refused(why_lead(a1));
+    };
+    let picture = l.picture;
+    let sequence = l.sequence;
+    let x = Context {
+        kind,
+        picture,
+        sequence,
+    };
+    let a2 = front(s, c1, x, l.slice_type);
+    let FrontStep::Got(f, c2) = a2 else {
+        return End::Refused(why_front(a2));
+    };
+    behind(s, c2, kind, l, f, numbers, signed, l0, l1, marking, w0, w1)
+}
+
+// All words of a header.
+pub fn clear_header(
+    numbers: &mut [u32; 57],
+    signed: &mut [i32; 7],
+    l0: &mut [u32; 198],
+    l1: &mut [u32; 198],
+    marking: &mut [u32; 198],
+    w0: &mut [i32; 256],
+    w1: &mut [i32; 256],
+)
+    ensures { λ _. ⌜ headerWords numbers signed l0 l1 marking w0 w1 .exit ≡ zeros ⌝ }
+{
+    *numbers = [0; 57];
+    *signed = [0; 7];
+    clear_list(l0);
+    clear_list(l1);
+    clear_list(marking);
+    clear_weights(w0);
+    clear_weights(w1);
+}
+
+// Before a header is laid down, what the counts of the one before say is in use becomes zeros. Where all counts are 0 that is a test for each.
+fn empty_lists(
+    numbers: &mut [u32; 57],
+    signed: &mut [i32; 7],
+    l0: &mut [u32; 198],
+    l1: &mut [u32; 198],
+    marking: &mut [u32; 198],
+    w0: &mut [i32; 256],
+    w1: &mut [i32; 256],
+)
+    ensures { λ _. ⌜ headerWords numbers signed l0 l1 marking w0 w1 .exit ≡ emptied (headerWords numbers signed l0 l1 marking w0 w1 .entry) ⌝ }
+{
+    empty_list(l0, numbers[MODIFICATIONS_L0]);
+    empty_list(l1, numbers[MODIFICATIONS_L1]);
+    empty_list(marking, numbers[MARKINGS]);
+    empty_weights(w0, numbers[WEIGHTS_L0]);
+    empty_weights(w1, numbers[WEIGHTS_L1]);
+}
+
+// The header at the start of a slice unit's unescaped body, by the table whose arrays are lent. All words of its fields are written. Words that were zeros behind a
+// list's count are zeros behind the new one. Beside a refusal all words are zeros.
+pub fn read_header_into<'a>(
+    s: &'a [u8],
+    kind: UnitKind,
+    sequences: &'a [u32; 224],
+    pictures: &'a [u32; 2048],
+    numbers: &mut [u32; 57],
+    signed: &mut [i32; 7],
+    l0: &mut [u32; 198],
+    l1: &mut [u32; 198],
+    marking: &mut [u32; 198],
+    w0: &mut [i32; 256],
+    w1: &mut [i32; 256],
+) -> End
+    ensures { λ r. ⌜ r ≡ headerEnd (readHeader (tableOf (now (sequences .entry)) (now (pictures .entry))) kind (bitsOf (now (s .entry)))) ⌝ }
+    ensures words { λ r. ⌜ headerWords numbers signed l0 l1 marking w0 w1 .exit ≡ headerLeft (readHeader (tableOf (now (sequences .entry)) (now (pictures .entry))) kind (bitsOf (now (s .entry)))) (headerWords numbers signed l0 l1 marking w0 w1 .entry) ⌝ }
+{
+    empty_lists(numbers, signed, l0, l1, marking, w0, w1);
+    let a = fill(
+        s,
+        kind,
+        sequences,
+        pictures,
+        numbers,
+        signed,
+        l0,
+        l1,
+        marking,
+        w0,
+        w1,
+    );
+    let End::At(_) = a else {
+        clear_header(numbers, signed, l0, l1, marking, w0, w1);
+        return a;
+    };
+    a
+}

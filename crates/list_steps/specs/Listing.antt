@@ -1,0 +1,103 @@
+-- A listing (docs/RULES.md, 'A listing, whole'): the text as a whole, and one step of writing it.
+use Prim.Native.Nat.{ℕ, zero, suc}
+use mathlib.Core.Path.{_≡_}
+use mathlib.Core.List.{List, [], _∷_, _++_}
+use mathlib.Core.Bool.{Bool, true, false}
+use lib.Dec.{leb, ltb}
+use lib.ListN.{length, take, drop}
+use Rattle.bits.specs.Refusals.{pick}
+use Rattle.table.specs.declared.table.Table.{Table}
+use Rattle.unit.specs.declared.answer.UnitAnswer.{UnitAnswer}
+use Rattle.unit.specs.declared.answer.UnitRead.{UnitRead}
+use Rattle.walk.specs.declared.walk.Step.{Step}
+use Rattle.walk.specs.Units.{Report}
+use Rattle.walk.specs.Walked.{WalkOut, walked}
+use Rattle.walk.specs.Reports.{sift, reports}
+use Rattle.lines.specs.Lines.{unitLine, endLine, tooLongLine, Written}
+use Rattle.list_steps.specs.declared.step.State.{State}
+use Rattle.list_steps.specs.declared.step.Listed.{Listed}
+
+-- the longest recording that is listed, in bytes
+abbrev pub most : ℕ
+most = 65536
+
+-- the bytes of a unit at a place
+abbrev pub bytesAt : List ℕ → ℕ → ℕ → List ℕ
+bytesAt s place n = take n (drop place s)
+
+-- ---- the listing
+
+-- a line for each report of a recording's units; `pictures` is the table's array of picture sets
+abbrev pub unitLines : List ℕ → List ℕ → List (Report UnitRead) → List ℕ
+unitLines pictures s [] = []
+unitLines pictures s (u ∷ us) = unitLine pictures (u .place) (bytesAt s (u .place) (u .size)) (u .read) ++ unitLines pictures s us
+
+abbrev pub isRefused : UnitAnswer → Bool
+isRefused (UnitAnswer.Slice bits) = false
+isRefused UnitAnswer.«Prefix» = false
+isRefused (UnitAnswer.Other id) = false
+isRefused (UnitAnswer.Refused r) = true
+
+-- the reports of refused units
+abbrev pub refusedOnes : List (Report UnitRead) → List (Report UnitRead)
+refusedOnes us = sift (λ (u : Report UnitRead). isRefused (u .read .answer)) us
+
+-- all units' lines, then the totals: how many reports there are, and how many of refused units
+abbrev pub wholeText : List ℕ → List ℕ → List (Report UnitRead) → List ℕ
+wholeText pictures s us = unitLines pictures s us ++ endLine (length us) (length (refusedOnes us))
+
+unfoldable pub listing : Table → List ℕ → List ℕ → List ℕ
+listing t scratch s = pick (leb (length s) most) (wholeText (t .pictures) s (reports t scratch s)) tooLongLine
+
+-- ---- one step
+
+abbrev pub start : State
+start = record { from = 0; units = 0; refused = 0 }
+
+-- one more; a count of `most` stays
+abbrev pub oneMore : ℕ → ℕ
+oneMore n = pick (ltb n most) (suc n) n
+
+-- after a unit, and whether it was refused
+abbrev pub counted : State → ℕ → Bool → State
+counted st next refused = record { from = next; units = oneMore (st .units); refused = pick refused (oneMore (st .refused)) (st .refused) }
+
+-- a line's text, the state after it, whether another follows, and scratch at exit
+pub record Turn : Type 0 where
+  pub text : List ℕ
+  pub state : State
+  pub more : Bool
+  pub left : List ℕ
+
+-- the last line
+abbrev pub last : List ℕ → State → List ℕ → Turn
+last text st scratch = record { text = text; state = st; more = false; left = scratch }
+
+-- a unit's line and its count; the totals where the walk came to no unit
+abbrev pub lineAfter : List ℕ → List ℕ → State → UnitRead → List ℕ → Step → Turn
+lineAfter pictures s st read scratch (Step.Unit place n next) =
+    record { text = unitLine pictures place (bytesAt s place n) read; state = counted st next (isRefused (read .answer)); more = true; left = scratch }
+lineAfter pictures s st read scratch Step.End = last (endLine (st .units) (st .refused)) st scratch
+lineAfter pictures s st read scratch (Step.Refused r) = last (endLine (st .units) (st .refused)) st scratch
+
+abbrev pub afterWalk : List ℕ → List ℕ → State → WalkOut → Turn
+afterWalk pictures s st w = lineAfter pictures s st (w .walked .read) (w .left) (w .walked .step)
+
+unfoldable pub turn : Table → List ℕ → State → List ℕ → Turn
+turn t s st scratch = pick (leb (length s) most) (afterWalk (t .pictures) s st (walked t s (st .from) scratch)) (last tooLongLine st scratch)
+
+-- what a step answers and leaves
+pub record Stepped (o : Turn) (line : List ℕ) (r : Listed) (scratch line′ : List ℕ) : Type 0 where
+  pub state : r .state ≡ o .state
+  pub more : r .more ≡ o .more
+  pub text : Written (o .text) line (r .length) line′
+  pub left : scratch ≡ o .left
+
+-- ---- steps one after another: the lines that at most f of them write, each from the state and with the scratch that the one before left
+
+abbrev pub andOn : Turn → (State → List ℕ → List ℕ) → List ℕ
+andOn o rest = o .text ++ pick (o .more) (rest (o .state) (o .left)) []
+
+abbrev pub steps : ℕ → Table → List ℕ → State → List ℕ → List ℕ
+steps zero t s st scratch = []
+steps (suc f) t s st scratch = andOn (turn t s st scratch) (steps f t s)

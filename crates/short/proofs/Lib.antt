@@ -1,4 +1,0 @@
-pub mod Told
-pub mod Lists
-pub mod Parts
-pub mod Tidy

@@ -1,0 +1,52 @@
+#!/usr/bin/env python3
+"""The units that crates/try_unit reads, made here bit by bit from the rules' syntax, and what it must print of them, with no line of the library.
+
+try_unit.py           compares with crates/try_unit/stdout and the units in crates/try_unit/src/cases.rt, and exits non-zero where they differ
+try_unit.py --write   writes stdout
+"""
+import re
+import sys
+
+from codes import escaped, packed, se, ue
+from model import CRATES, hold
+
+TAIL = "1" * 9  # slice data with set bits, so that something follows the header
+
+
+def unit(first, header, extension=b""):
+    return bytes([first]) + extension + escaped(packed(header + TAIL))
+
+
+def p_slice(picture_set=0, override="0", modification="0", qp=0, deblocking=""):
+    """A P slice (slice_type 5) with the sample sets, frame_num 5, nal_ref_idc 0."""
+    return ue(0) + ue(5) + ue(picture_set) + "0101" + override + modification + se(qp) + deblocking
+
+
+cases = []
+
+
+def case(name, header, refused=None, first=0x01, extension=b"", active=0, mods=0, idc=0):
+    said = f"refused {refused[0]} value={refused[1]}" if refused else f"slice bits={len(header)} slice_type=5 active={active} mods={mods} idc={idc}"
+    cases.append((unit(first, header, extension), f"{name}: {said}"))
+
+
+for n in (31, 32):
+    case(f"active minus1 {n}", p_slice(override="1" + ue(n)), None if n <= 31 else (21, n), active=n)
+for d in (25, 26, -26, -27):
+    case(f"QP delta {d}", p_slice(qp=d), None if 0 <= 26 + d <= 51 else (16, d))
+for n in (0, 1, 6, 7):
+    offsets = "" if n == 1 else se(0) + se(0)
+    case(f"deblocking idc {n}", p_slice(picture_set=1, deblocking=ue(n) + offsets), None if n <= 6 else (18, n), idc=n)
+for n in (0, 66, 67):
+    case(f"a list of {n}", p_slice(modification="1" + (ue(0) + ue(0)) * n + ue(3)), None if n <= 66 else (14, 0), mods=n)
+view = p_slice(modification="1" + ue(4) + ue(0) + ue(3))
+case("modification idc 4", view, (12, 4))
+case("modification idc 4 of a view", view, first=0x14, extension=b"\x40\x00\x01", mods=1)
+case("a scalable slice", view, (13, 0), first=0x14, extension=b"\x80\x00\x00")
+
+source = (CRATES / "try_unit/src/cases.rt").read_text()
+literals = [bytes.fromhex(x.replace("\\x", "")) for x in re.findall(r'b"((?:\\x[0-9a-f]{2})+)"', source)]
+if literals != [u for u, _ in cases]:
+    print("try_unit: the units in crates/try_unit/src/cases.rt are not those that tests/try_unit.py makes")
+    sys.exit(1)
+hold("try_unit", [line for _, line in cases])
