@@ -9,7 +9,8 @@ use crate::fields::lay;
 use bits::read::Cursor;
 use bits::refusals::NOTHING_FOLLOWS;
 use bits::refusals::Refusal;
-use bits::refusals::refuse;
+use bits::refusals::no_refusal;
+use bits::refusals::refuse_at;
 use fields::conditions::B;
 use fields::conditions::is_type;
 use fields::read::flag_if;
@@ -117,10 +118,7 @@ fn why_lists(a: ListsStep) -> Refusal
     ensures { λ r. ⌜ r ≡ whyLists a ⌝ }
 {
     match a {
-        ListsStep::Got(_, _) => Refusal {
-            number: 0,
-            value: 0,
-        },
+        ListsStep::Got(_, _) => no_refusal(),
         ListsStep::Refused(r) => r,
     }
 }
@@ -129,10 +127,7 @@ fn why_marks(a: MarksStep) -> Refusal
     ensures { λ r. ⌜ r ≡ whyMarks a ⌝ }
 {
     match a {
-        MarksStep::Got(_, _) => Refusal {
-            number: 0,
-            value: 0,
-        },
+        MarksStep::Got(_, _) => no_refusal(),
         MarksStep::Refused(r) => r,
     }
 }
@@ -258,7 +253,7 @@ fn behind(
         return End::Refused(why_back(a6));
     };
     if !any_set_after(s, c6.at) {
-        return End::Refused(refuse(NOTHING_FOLLOWS, 0, c6.at));
+        return End::Refused(refuse_at(NOTHING_FOLLOWS, 0, c6.at));
     }
     let frame = f.frame;
     let order_count = f.order_count;

@@ -5,7 +5,8 @@ use bits::read::why;
 use bits::refusals::BASE_MARKING_OPERATION;
 use bits::refusals::LIST_FULL;
 use bits::refusals::Refusal;
-use bits::refusals::refuse;
+use bits::refusals::no_refusal;
+use bits::refusals::refuse_at;
 use fields::read::flag_if;
 use fields::read::given;
 use fields::read::tested;
@@ -34,10 +35,7 @@ pub fn why_list(a: ListStep) -> Refusal
     ensures { λ r. ⌜ r ≡ whyList a ⌝ }
 {
     match a {
-        ListStep::Got(_, _) => Refusal {
-            number: 0,
-            value: 0,
-        },
+        ListStep::Got(_, _) => no_refusal(),
         ListStep::Refused(r) => r,
     }
 }
@@ -89,7 +87,7 @@ fn fill(s: &[u8], c: Cursor, kind: ListKind, words: &mut [u32; 198]) -> ListStep
             break Filled { count, at: c1 };
         }
         if 66 <= count {
-            return ListStep::Refused(refuse(LIST_FULL, 0, at.at));
+            return ListStep::Refused(refuse_at(LIST_FULL, 0, at.at));
         }
         let b = given(s, c1, has_first(kind, code));
         let Read::Got(x, c2) = b else {

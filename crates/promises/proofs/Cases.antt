@@ -140,7 +140,7 @@ module _ (t : Table) (unit scratch : List ℕ) where
 abbrev pub Idle : List ℕ → List ℕ → Step → Type 0
 Idle scratch left (Step.Unit place length next) = Unit {0}
 Idle scratch left Step.End = left ≡ scratch
-Idle scratch left (Step.Refused r) = (left ≡ scratch) × (r ≡ refusal tooLarge (pos 0) 0)
+Idle scratch left (Step.Refused r) = (left ≡ scratch) × (r ≡ refusal tooLarge (pos 0))
 
 module _ (t : Table) (s : List ℕ) (from : ℕ) (scratch : List ℕ) where
   searched : (f : Found) → Idle scratch (afterSearch t s scratch f .left) (afterSearch t s scratch f .walked .step)

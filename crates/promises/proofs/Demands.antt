@@ -70,11 +70,11 @@ module _ (t : Table) (first : ℕ) (x : ExtensionGiven) (h : SliceHeader) (out :
 
 -- a refused put alters nothing, and is 24
 module _ (t : Table) (id : ℕ) (r : Refusal) where
-  pub demand-1-refused-table-sequence : (s : Sequence) → putSequence t id s .answer ≡ Changed.Refused r → (putSequence t id s .table ≡ t) × (r ≡ refusal 24 (pos 0) 0)
+  pub demand-1-refused-table-sequence : (s : Sequence) → putSequence t id s .answer ≡ Changed.Refused r → (putSequence t id s .table ≡ t) × (r ≡ refusal 24 (pos 0))
   unfolding sequencePut
   demand-1-refused-table-sequence s e = cases (leb id 31 && sequenceFits s) (λ g. not-done (rw g at e)) (λ g. (rw g, sym (cc (rw g at e))))
 
-  pub demand-1-refused-table-picture : (p : Picture) → putPicture t id p .answer ≡ Changed.Refused r → (putPicture t id p .table ≡ t) × (r ≡ refusal 24 (pos 0) 0)
+  pub demand-1-refused-table-picture : (p : Picture) → putPicture t id p .answer ≡ Changed.Refused r → (putPicture t id p .table ≡ t) × (r ≡ refusal 24 (pos 0))
   unfolding picturePut
   demand-1-refused-table-picture p e = cases (leb id 255 && pictureFits p) (λ g. not-done (rw g at e)) (λ g. (rw g, sym (cc (rw g at e))))
 
@@ -83,7 +83,7 @@ module _ (t : Table) (s : List ℕ) (from : ℕ) (scratch : List ℕ) where
   pub demand-1-scratch-end : walked t s from scratch .walked .step ≡ Step.End → walked t s from scratch .left ≡ scratch
   demand-1-scratch-end e = subst (Idle scratch (walked t s from scratch .left)) e (walk-idle t s from scratch)
 
-  pub demand-1-refused-walk : (r : Refusal) → walked t s from scratch .walked .step ≡ Step.Refused r → (walked t s from scratch .left ≡ scratch) × (r ≡ refusal tooLarge (pos 0) 0)
+  pub demand-1-refused-walk : (r : Refusal) → walked t s from scratch .walked .step ≡ Step.Refused r → (walked t s from scratch .left ≡ scratch) × (r ≡ refusal tooLarge (pos 0))
   demand-1-refused-walk r e = subst (Idle scratch (walked t s from scratch .left)) e (walk-idle t s from scratch)
 
 -- ---- demand 2: a header that is read is what the standard's table says; it is written back to its exact bits, and what is written reads back
@@ -123,7 +123,7 @@ module _ (t : Table) (u scratch : List ℕ) (h : SliceHeader) (e : ℕ) (a : uni
 
 -- 25 is exact: where it is given, no unit that starts as the writer was told reads as the record; where no bits read to it, the answer is neither bits nor 26
 module _ (t : Table) (first : ℕ) (x : ExtensionGiven) (h : SliceHeader) (out : List ℕ) where
-  pub demand-2-25-exact : writeHeader t first x h out .answer ≡ HeaderWrote.Refused (refusal noBits (pos 0) 0) → (v scratch : List ℕ) (e : ℕ)
+  pub demand-2-25-exact : writeHeader t first x h out .answer ≡ HeaderWrote.Refused (refusal noBits (pos 0)) → (v scratch : List ℕ) (e : ℕ)
       → unitRead t (unitOf first x v) scratch .read .answer ≡ UnitAnswer.Slice e → unitRead t (unitOf first x v) scratch .read .header ≡ h → ⊥
   demand-2-25-exact = none-reads t first x h out
 

@@ -3,6 +3,7 @@ use bits::read::Cursor;
 use bits::read::Read;
 use bits::read::why;
 use bits::refusals::Refusal;
+use bits::refusals::no_refusal;
 use fields::conditions::B;
 use fields::conditions::has_chroma;
 use fields::conditions::is_type;
@@ -56,10 +57,7 @@ pub fn why_weights(a: WeightsStep) -> Refusal
     ensures { λ r. ⌜ r ≡ whyWeights a ⌝ }
 {
     match a {
-        WeightsStep::Got(_, _) => Refusal {
-            number: 0,
-            value: 0,
-        },
+        WeightsStep::Got(_, _) => no_refusal(),
         WeightsStep::Refused(r) => r,
     }
 }
@@ -68,10 +66,7 @@ fn why_list(a: ListStep) -> Refusal
     ensures { λ r. ⌜ r ≡ whyList a ⌝ }
 {
     match a {
-        ListStep::Got(_, _) => Refusal {
-            number: 0,
-            value: 0,
-        },
+        ListStep::Got(_, _) => no_refusal(),
         ListStep::Refused(r) => r,
     }
 }

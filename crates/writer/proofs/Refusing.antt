@@ -145,12 +145,12 @@ module _ (t : Table) (b : ℕ) (x : ExtensionGiven) (h : SliceHeader) (out : Lis
 -- ---- 25
 
 abbrev none : HeaderWrote
-none = HeaderWrote.Refused (refusal noBits (pos 0) 0)
+none = HeaderWrote.Refused (refusal noBits (pos 0))
 
 -- a check of others is no 25
 other : {P : Type 0} {r : Refusal} → HeaderWrote.Refused r ≡ none → (ns : List ℕ) → T (among ns (r .number)) → among ns 25 ≡ false → P
 other {r = r} e ns g f =
-    let i : r ≡ refusal noBits (pos 0) 0 = (cc e) in
+    let i : r ≡ refusal noBits (pos 0) = (cc e) in
     absurd (rw f at (rw i at g))
 
 -- ---- units that start as the writer was told
@@ -214,7 +214,7 @@ module _ (t : Table) (b : ℕ) (x : ExtensionGiven) (h : SliceHeader) (out : Lis
       sets : {k : UnitKind} → kindGiven b x ≡ KindGiven.Of k → (f : SetsFor) → setsFor t (h .«pic_parameter_set_id») ≡ f → SetsFine f → Turned (writeHeader t b x h out .answer)
       sets {k} q (SetsFor.There p z) g i =
           let f : Found t (h .«pic_parameter_set_id») = record { picture = p; sequence = z; are = g } in
-          record { why = refusal noBits (pos 0) 0; is = ap (λ (o : HeaderOut). o .answer) (unread-refused t b x h out q f (n k)); number = tt }
+          record { why = refusal noBits (pos 0); is = ap (λ (o : HeaderOut). o .answer) (unread-refused t b x h out q f (n k)); number = tt }
       sets q (SetsFor.Refused d) g i =
           record {
             why = d;

@@ -1,5 +1,5 @@
 // Writing a field: as it is, tested, or there only under a condition. Each says which format of syntax/specs it writes. Order and names are those of the
-// crate codes, which reads them.
+// crate fields, which reads them.
 use crate::places::NOWHERE;
 use crate::places::place_of;
 use bits::read::Cursor;
