@@ -39,11 +39,11 @@ abbrev pub otherText : ℕ → List ℕ
 otherText id = field " other type=" id
 
 -- where the refused field begins, if the refusal has a place
-abbrev pub bitText : Refusal → List ℕ
-bitText r = pick (r .«has_bit») (field " bit=" (r .bit)) []
+abbrev pub bitText : Bool → ℕ → List ℕ
+bitText has-bit bit = pick has-bit (field " bit=" bit) []
 
 abbrev pub refusedText : Refusal → List ℕ
-refusedText r = field " refused " (r .number) ++ words " value=" ++ signed (r .value) ++ bitText r
+refusedText r = field " refused " (r .number) ++ words " value=" ++ signed (r .value) ++ bitText (r .«has_bit») (r .bit)
 
 abbrev pub textOf : List ℕ → List ℕ → SliceHeader → UnitAnswer → List ℕ
 textOf pictures unit h (UnitAnswer.Slice bits) =

@@ -46,14 +46,14 @@ fn prefix_words(d: &mut [u8; 128], at: usize, svc: bool) -> usize
     words(d, at, b" prefix ext=mvc")
 }
 
-fn bit_words(d: &mut [u8; 128], at: usize, r: Refusal) -> usize
+fn bit_words(d: &mut [u8; 128], at: usize, has_bit: bool, bit: usize) -> usize
     requires { ⌜ at ≤ 98 ⌝ }
-    ensures { λ e. ⌜ Put (now (d .entry)) at (bitText r) e (now (d .exit)) × (e ≤ 127) ⌝ }
+    ensures { λ r. ⌜ Put (now (d .entry)) at (bitText «has_bit» bit) r (now (d .exit)) × (r ≤ 127) ⌝ }
 {
-    if !r.has_bit {
-        return at;
+    if has_bit {
+        return field(d, at, b" bit=", bit as u64);
     }
-    field(d, at, b" bit=", r.bit as u64)
+    at
 }
 
 // The longest of the lines: 9 bytes and 3 digits, 7 bytes, a sign and 19 digits, 5 bytes and 20 digits end at byte 123.
@@ -65,7 +65,7 @@ fn refused_words(d: &mut [u8; 128], at: usize, r: Refusal) -> usize
     let b = words(d, a, b" value=");
     let v = r.value;
     let c = signed_number(d, b, v);
-    bit_words(d, c, r)
+    bit_words(d, c, r.has_bit, r.bit)
 }
 
 // What reading a unit answers; a slice's header stands in the words.

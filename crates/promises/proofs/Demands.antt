@@ -42,7 +42,7 @@ use Rattle.writer.proofs.Answers.{wrote}
 use Rattle.writer.proofs.Units.{slice-reads}
 use Rattle.writer.proofs.RoundTrip as writer
 use Rattle.writer.proofs.Refusing.{refused-with, told-starts, none-reads, unread-turned}
-use Rattle.promises.specs.Demands.{oneOf, readNumbers, writeNumbers, scratchAfter, unitOf, firstOf, extensionIn, bodyOf, bodyBits, Stands, UpTo25}
+use Rattle.promises.specs.Demands.{oneOf, readNumbers, bodyNumbers, writeNumbers, scratchAfter, unitOf, firstOf, extensionIn, bodyOf, bodyBits, Stands, UpTo25}
 use Rattle.promises.proofs.Cases.{Alone, unit-fine, unit-left, Idle, walk-idle, not-done}
 
 -- ---- demand 1: every call answers as the rules say, for refused input too, and leaves nothing behind that they do not name
@@ -54,7 +54,11 @@ module _ (t : Table) (unit scratch : List ℕ) where
 
   -- its number is one that reading gives
   pub demand-1-numbers-read : (r : Refusal) → unitRead t unit scratch .read .answer ≡ UnitAnswer.Refused r → T (oneOf readNumbers (r .number))
-  demand-1-numbers-read r e = subst (Alone (unitRead t unit scratch .read)) e (unit-fine t unit scratch) .1
+  demand-1-numbers-read r e = subst (Alone (unitRead t unit scratch .read)) e (unit-fine t unit scratch) .1 .0
+
+  -- it has a bit place exactly where it arises while the body is read
+  pub demand-1-place : (r : Refusal) → unitRead t unit scratch .read .answer ≡ UnitAnswer.Refused r → r .«has_bit» ≡ oneOf bodyNumbers (r .number)
+  demand-1-place r e = subst (Alone (unitRead t unit scratch .read)) e (unit-fine t unit scratch) .1 .1
 
   -- scratch starts with the unescaped body, or is untouched, whatever the answer
   pub demand-1-scratch : unitRead t unit scratch .left ≡ scratchAfter unit scratch
@@ -66,7 +70,11 @@ module _ (t : Table) (first : ℕ) (x : ExtensionGiven) (h : SliceHeader) (out :
   demand-1-refused-write = refused-with t first x h out e .0
 
   pub demand-1-numbers-write : T (oneOf writeNumbers (r .number))
-  demand-1-numbers-write = refused-with t first x h out e .1
+  demand-1-numbers-write = refused-with t first x h out e .1 .0
+
+  -- nothing that is written has a place in a body
+  pub demand-1-no-place : r .«has_bit» ≡ false
+  demand-1-no-place = refused-with t first x h out e .1 .1
 
 -- a refused put alters nothing, and is 24
 module _ (t : Table) (id : ℕ) (r : Refusal) where
