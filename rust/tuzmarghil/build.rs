@@ -22,7 +22,7 @@ const RECORDS: [&str; 13] = [
 ];
 
 /// The file that lays a header's fields down as words, and the one that has the number of the boundary's layout.
-const FIELDS: &str = "crates/header/src/fields.rt";
+const FIELDS: &str = "crates/header/src/words.rt";
 const LAYOUT: &str = "crates/exports/src/layout.rt";
 
 fn main() {

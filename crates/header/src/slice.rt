@@ -1,11 +1,11 @@
 // The header read into lent words: its fields in two arrays, one of numbers and flags and one of signed numbers, and each list in an array of its own. A record
 // handed back by value would be copied by every function on its way.
-use crate::fields::MARKINGS;
-use crate::fields::MODIFICATIONS_L0;
-use crate::fields::MODIFICATIONS_L1;
-use crate::fields::WEIGHTS_L0;
-use crate::fields::WEIGHTS_L1;
-use crate::fields::lay;
+use crate::words::MARKINGS;
+use crate::words::MODIFICATIONS_L0;
+use crate::words::MODIFICATIONS_L1;
+use crate::words::WEIGHTS_L0;
+use crate::words::WEIGHTS_L1;
+use crate::words::lay;
 use bits::read::Cursor;
 use bits::refusals::NOTHING_FOLLOWS;
 use bits::refusals::Refusal;

@@ -1,13 +1,13 @@
 // The record that lent words hold, taken out of them.
 use crate::entries::operations_of;
 use crate::entries::weights_of;
-use crate::fields::active_counts_of;
-use crate::fields::filter_of;
-use crate::fields::frame_of;
-use crate::fields::marked_flag;
-use crate::fields::marked_number;
-use crate::fields::order_count_of;
-use crate::fields::quantiser_of;
+use crate::parts_of::active_counts_of;
+use crate::parts_of::filter_of;
+use crate::parts_of::frame_of;
+use crate::parts_of::marked_flag;
+use crate::parts_of::marked_number;
+use crate::parts_of::order_count_of;
+use crate::parts_of::quantiser_of;
 use syntax::record::DecRefPicMarking;
 use syntax::record::Modification;
 use syntax::record::Modifications;
