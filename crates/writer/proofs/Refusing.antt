@@ -139,7 +139,7 @@ module _ (t : Table) (b : ℕ) (x : ExtensionGiven) (h : SliceHeader) (out : Lis
   unfolding writeWhere
   fine = by-kind t h out (kindGiven b x) (kind-fine b x)
 
-  pub refused-with : {r : Refusal} → writeHeader t b x h out .answer ≡ HeaderWrote.Refused r → (writeHeader t b x h out .left ≡ out) × T (among numbers (r .number))
+  pub refused-with : {r : Refusal} → writeHeader t b x h out .answer ≡ HeaderWrote.Refused r → (writeHeader t b x h out .left ≡ out) × (T (among numbers (r .number)) × (r .«has_bit» ≡ false))
   refused-with e = subst (Fine out (writeHeader t b x h out .left)) e fine
 
 -- ---- 25
@@ -201,11 +201,11 @@ module _ (t : Table) (b : ℕ) (x : ExtensionGiven) (h : SliceHeader) (out : Lis
     where
       sets : {k : UnitKind} → kindGiven b x ≡ KindGiven.Of k → (f : SetsFor) → setsFor t (h .«pic_parameter_set_id») ≡ f → SetsFine f → ⊥
       sets q (SetsFor.There p z) g i = refused-no-unit t b x h out q (record { picture = p; sequence = z; are = g }) w (unitOf b x v) v scratch e (told-starts b x q v) a r
-      sets q (SetsFor.Refused d) g i = other (sym (by-the-sets q g) ∙ w) (8 ∷ 9 ∷ 10 ∷ []) i refl
+      sets q (SetsFor.Refused d) g i = other (sym (by-the-sets q g) ∙ w) (8 ∷ 9 ∷ 10 ∷ []) (i .0) refl
 
       kind : (f : KindGiven) → kindGiven b x ≡ f → KindFine f → ⊥
       kind (KindGiven.Of k) q i = sets q (setsFor t (h .«pic_parameter_set_id»)) refl (sets-fine t (h .«pic_parameter_set_id»))
-      kind (KindGiven.Refused d) q i = other (sym (by-the-kind q) ∙ w) (2 ∷ 3 ∷ 4 ∷ 13 ∷ []) i refl
+      kind (KindGiven.Refused d) q i = other (sym (by-the-kind q) ∙ w) (2 ∷ 3 ∷ 4 ∷ 13 ∷ []) (i .0) refl
 
   -- and where no bits read to the record, it is given, unless a check before it is
   pub unread-turned : ((k : UnitKind) (s : Bits) (e : ℕ) → readHeader t k s ≡ got h e → ⊥) → Turned (writeHeader t b x h out .answer)
@@ -219,9 +219,9 @@ module _ (t : Table) (b : ℕ) (x : ExtensionGiven) (h : SliceHeader) (out : Lis
           record {
             why = d;
             is = by-the-sets q g;
-            number = among-right (2 ∷ 3 ∷ 4 ∷ 13 ∷ []) (8 ∷ 9 ∷ 10 ∷ 25 ∷ []) (d .number) (among-left (8 ∷ 9 ∷ 10 ∷ []) (25 ∷ []) (d .number) i);
+            number = among-right (2 ∷ 3 ∷ 4 ∷ 13 ∷ []) (8 ∷ 9 ∷ 10 ∷ 25 ∷ []) (d .number) (among-left (8 ∷ 9 ∷ 10 ∷ []) (25 ∷ []) (d .number) (i .0));
           }
 
       kind : (f : KindGiven) → kindGiven b x ≡ f → KindFine f → Turned (writeHeader t b x h out .answer)
       kind (KindGiven.Of k) q i = sets q (setsFor t (h .«pic_parameter_set_id»)) refl (sets-fine t (h .«pic_parameter_set_id»))
-      kind (KindGiven.Refused d) q i = record { why = d; is = by-the-kind q; number = among-left (2 ∷ 3 ∷ 4 ∷ 13 ∷ []) (8 ∷ 9 ∷ 10 ∷ 25 ∷ []) (d .number) i }
+      kind (KindGiven.Refused d) q i = record { why = d; is = by-the-kind q; number = among-left (2 ∷ 3 ∷ 4 ∷ 13 ∷ []) (8 ∷ 9 ∷ 10 ∷ 25 ∷ []) (d .number) (i .0) }
