@@ -542,11 +542,19 @@ fn the_place_of_a_refusal() {
         (&sample, &[0x65, 0x88], Refusal::at(5, 0, 8)),
         // the code's zeros and its one are there, and what follows them is not
         (&sample, &[0x65, 0x81], Refusal::at(5, 0, 1)),
-        (&sample, &[1, 0x80, 0, 0, 3, 0, 0, 3, 0, 9], Refusal::at(6, 0, 1)),
+        (
+            &sample,
+            &[1, 0x80, 0, 0, 3, 0, 0, 3, 0, 9],
+            Refusal::at(6, 0, 1),
+        ),
         (&sample, &[0x01, 0x8B, 0xFF], Refusal::at(7, 10, 1)),
         (&empty, &[0x65, 0x88, 0x84, 0xA0], Refusal::at(9, 0, 8)),
         (&alone, &[0x65, 0x88, 0x84, 0xA0], Refusal::at(10, 0, 8)),
-        (&sample, &[0x74, 0x80, 0, 0, 0x88, 0x82], Refusal::at(13, 0, 13)),
+        (
+            &sample,
+            &[0x74, 0x80, 0, 0, 0x88, 0x82],
+            Refusal::at(13, 0, 13),
+        ),
         (&sample, &long, Refusal::at(14, 0, 141)),
         (&sample, &[0x65, 0x88, 0x84, 0x80], Refusal::at(22, 0, 17)),
         (&sample, &[0x6E, 0x80, 0, 7, 0x90], Refusal::at(23, 3, 1)),
@@ -572,7 +580,9 @@ fn the_place_of_a_refusal() {
         let told = format!("refused {number} value={value}{bit}\n");
         let place = format!("unit place=3 length={} ", unit.len());
         assert_eq!(String::from_utf8_lossy(line), place + &told);
-        let bit = refusal.bit.map_or(String::new(), |b| format!(" at bit {b}"));
+        let bit = refusal
+            .bit
+            .map_or(String::new(), |b| format!(" at bit {b}"));
         let text = format!("refused {number}{bit}: {}", refusal.reason());
         assert_eq!(refusal.to_string(), text);
     }
@@ -598,7 +608,10 @@ fn the_longest_line() {
     };
     let (mut line, most) = ([0; 128], usize::MAX);
     let line = raw::unit_line(&mut line, table.as_raw(), most, most, &[], &out, &words);
-    let told = format!("unit place={most} length={most} refused 255 value={} bit={most}\n", i64::MIN);
+    let told = format!(
+        "unit place={most} length={most} refused 255 value={} bit={most}\n",
+        i64::MIN
+    );
     assert_eq!(String::from_utf8_lossy(line), told);
     assert_eq!(told.len(), 124);
 }
