@@ -86,7 +86,7 @@ fn a_file_takes_its_place() {
     );
     assert_eq!((err(&done).as_str(), done.status.code()), ("", Some(0)));
     let rows = fs::read_to_string(here.join("old.csv")).unwrap();
-    assert_eq!(rows.lines().last().unwrap(), "4,4,slice,,,,7,I,0,26");
+    assert_eq!(rows.lines().last().unwrap(), "4,4,slice,,,,,7,I,0,26");
     let mode = fs::metadata(here.join("old.csv")).unwrap().permissions();
     assert_eq!(mode.mode() & 0o777, 0o640);
     assert!(fs::symlink_metadata(here.join("link"))
