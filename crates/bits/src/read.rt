@@ -1,8 +1,8 @@
 // Reads at a bit place of a body: fixed-width bits u(n), a flag, and the codes ue(v) and se(v). Each hands back the value and the moved cursor, or the refusal.
 use crate::refusals::RAN_OUT;
 use crate::refusals::Refusal;
-use crate::refusals::no_refusal;
 use crate::refusals::TOO_MANY_ZEROS;
+use crate::refusals::no_refusal;
 use crate::refusals::refuse_at;
 use crate::window::long_window;
 use crate::window::within;

@@ -1,9 +1,9 @@
 // Whole units.
 use bits::refusals::Refusal;
+use lists::list_words::PrefixShort;
 use unit::answer::no_prefix;
 use unit::into::ShortAnswer;
 use unit::into::read_unit_into;
-use lists::list_words::PrefixShort;
 ghost use mathlib.Core.Path.{_≡_};
 ghost use Rattle.header.specs.Lead.{tableOf};
 ghost use Rattle.unit.specs.Unit.{unitRead};

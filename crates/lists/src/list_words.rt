@@ -1,4 +1,7 @@
 // A list read into words that the caller lends: three words an entry, its code and its two operands. No list is copied, and words behind the last entry stay as they were: `empty_list` makes them zeros.
+use crate::operations::ListKind;
+use crate::operations::has_first;
+use crate::operations::has_second;
 use bits::read::Cursor;
 use bits::read::Read;
 use bits::read::why;
@@ -12,9 +15,6 @@ use fields::read::given;
 use fields::read::tested;
 use fields::step::FlagStep;
 use fields::step::why_flag;
-use crate::operations::ListKind;
-use crate::operations::has_first;
-use crate::operations::has_second;
 use syntax::marks::MarkedFlag;
 ghost use mathlib.Core.Path.{_≡_};
 ghost use lib.ListN.{replicate};

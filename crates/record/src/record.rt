@@ -8,13 +8,13 @@ use crate::parts_of::marked_flag;
 use crate::parts_of::marked_number;
 use crate::parts_of::order_count_of;
 use crate::parts_of::quantiser_of;
+use lists::list_words::PrefixShort;
 use syntax::record::DecRefPicMarking;
 use syntax::record::Modification;
 use syntax::record::Modifications;
 use syntax::record::PredWeightTable;
 use syntax::record::Prefix;
 use syntax::record::SliceHeader;
-use lists::list_words::PrefixShort;
 ghost use mathlib.Core.Path.{_≡_};
 ghost use Rattle.record.specs.Record.{modificationsFrom, weightTableFrom, markingFrom, headerFrom, prefixFrom};
 

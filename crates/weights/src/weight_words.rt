@@ -1,4 +1,9 @@
 // pred_weight_table( ) with its entries in words that the caller lends: an array by value is copied at each call that passes it on.
+use crate::list::at_most_32;
+use crate::weight::WeightStep;
+use crate::weight::weight;
+use crate::weight::why_weight;
+use crate::weights::count_if;
 use bits::read::Cursor;
 use bits::read::Read;
 use bits::read::why;
@@ -14,11 +19,6 @@ use fields::step::why_number;
 use syntax::context::Context;
 use syntax::marks::MarkedNumber;
 use syntax::record::Weight;
-use crate::list::at_most_32;
-use crate::weight::WeightStep;
-use crate::weight::weight;
-use crate::weight::why_weight;
-use crate::weights::count_if;
 ghost use mathlib.Core.Path.{_≡_};
 ghost use Prim.Native.Nat.{_*_, _<_};
 ghost use lib.IntN.{pos};

@@ -2,8 +2,8 @@
 use bits::refusals::NO_EXTENSION;
 use bits::refusals::NOT_A_SLICE;
 use bits::refusals::Refusal;
-use bits::refusals::no_refusal;
 use bits::refusals::SCALABLE;
+use bits::refusals::no_refusal;
 use bits::refusals::refuse;
 use fields::conditions::either;
 use header::kinds::kind_of;

@@ -3,9 +3,9 @@
 use crate::places::NOWHERE;
 use crate::places::place_of;
 use bits::read::Cursor;
-use fields::read::offset_fits;
 use fields::quant::qp_fits;
 use fields::quant::qs_fits;
+use fields::read::offset_fits;
 use syntax::context::Context;
 use syntax::marks::MarkedFlag;
 use syntax::marks::MarkedNumber;

@@ -12,9 +12,10 @@ field-requires : tie.Need-field-requires
 field-requires c κs = omega (arith, decimal-64 (c .before .before .before .args .bit) (c .before .before .before .fits .bit .fits))
 
 returns : tie.Need-returns
-returns c =
-    (rw (c .before .before .before .if1 .taken) (c .field .ensures),
-    omega (arith, c .field .ensures .end, decimal-64 (c .before .before .before .before .args .bit) (c .before .before .before .before .fits .bit .fits)))
+returns c = (
+  rw (c .before .before .before .if1 .taken) (c .field .ensures),
+  omega (arith, c .field .ensures .end, decimal-64 (c .before .before .before .before .args .bit) (c .before .before .before .before .fits .bit .fits)),
+)
 
 returns-2 : tie.Need-returns-2
 returns-2 c = (rw (c .if1 .left) (nothing _ _), omega arith)
