@@ -21,7 +21,7 @@ static void put_sample(void) {
 
 static void tell(const tuz_WalkOut *step, const uint8_t *unit) {
   uint8_t line[128];
-  size_t end = tuz_unit_line(line, table.pictures, step->place, step->length, unit, step->length, step->read.answer, (uint8_t)step->read.number, step->read.value, numbers, signed_numbers);
+  size_t end = tuz_unit_line(line, table.pictures, step->place, step->length, unit, step->length, step->read.answer, (uint8_t)step->read.number, step->read.value, step->read.has_bit, step->read.bit, numbers, signed_numbers);
   fwrite(line, 1, end, stdout);
 }
 

@@ -6,7 +6,7 @@
 COMMAND answers `COMMAND cases FILE`; else $TUZ does, else ./tuz. The model in rules.py is held to them too; --model: it alone.
 With --rewrite the port also writes each slice header that it has read, and stops where its bits do not come back.
 
-A line of answers.txt is the Rust's answer, as tests/oracle prints it. Where the Rust departs from the rules in a known way
+A line of answers.txt is the Rust's answer, as tests/oracle prints it, with the bit place of a refusal as its tracing reader sees it. Where the Rust departs from the rules in a known way
 (docs/DIFFERENCES.md), what the rules want stands behind ` | doc: `, or, where the Rust stops at a forbidden pattern, the Rust's answer
 to the same body, escaped, behind ` | escaped: `.
 """
@@ -22,7 +22,6 @@ from rules import cases
 
 ROOT = pathlib.Path(__file__).resolve().parent.parent
 FROZEN = ROOT / "tests/frozen"
-BIT = re.compile(r" bit=\d+")  # the places of M-103, not compared yet
 DOCUMENT = re.compile(r".* \| (?:doc|escaped): ")
 
 
@@ -57,7 +56,7 @@ def main():
     p.add_argument("--rewrite", action="store_true")
     args = p.parse_args()
     port = shlex.split(args.port)
-    wanted = [BIT.sub("", DOCUMENT.sub("", line)) for line in (FROZEN / "answers.txt").read_text().splitlines()]
+    wanted = [DOCUMENT.sub("", line) for line in (FROZEN / "answers.txt").read_text().splitlines()]
     good = listed() & held("the model", list(cases(FROZEN / "cases.txt")), wanted)
     if args.model:
         return not good
@@ -66,7 +65,7 @@ def main():
         return not good or os.environ.get("CI") == "true"
     rewrite = ["--rewrite"] if args.rewrite else []
     done = subprocess.run([*port, "cases", *rewrite, str(FROZEN / "cases.txt")], stdout=subprocess.PIPE, text=True)
-    answers = BIT.sub("", done.stdout).splitlines()
+    answers = done.stdout.splitlines()
     if done.returncode:
         print(f"frozen: the port ends with status {done.returncode} after {len(answers)} answers")
         return 1

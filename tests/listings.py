@@ -137,7 +137,7 @@ def recordings():
 
 def command():
     """The program, as `rt check` runs it."""
-    newest = max(p.stat().st_mtime for c in ("lines", "listed", "listing", "walk", "unit") for p in (CRATES / c / "src").glob("*.rt"))
+    newest = max(p.stat().st_mtime for c in ("lines", "list_steps", "listing", "walk", "unit") for p in (CRATES / c / "src").glob("*.rt"))
     program = ROOT / "target/bin/listing"
     if not program.exists() or program.stat().st_mtime < newest:
         done = subprocess.run(["rt", "check", "listing"], cwd=ROOT, capture_output=True, text=True)

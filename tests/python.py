@@ -15,7 +15,7 @@ import numpy
 import tuzmarghil
 
 ROOT = pathlib.Path(__file__).resolve().parent.parent
-NAMES = "place length answer refusal value why nal_unit_type nal_ref_idc first_mb_in_slice slice_type family pic_parameter_set_id frame_num slice_qp_delta bits qp".split()
+NAMES = "place length answer refusal value bit why nal_unit_type nal_ref_idc first_mb_in_slice slice_type family pic_parameter_set_id frame_num slice_qp_delta bits qp".split()
 
 
 def held(what, good):
@@ -62,8 +62,9 @@ def errors():
             continue
         sys.exit(f"python: no {kind.__name__}")
     movie.unlink()
-    unread = [r.refusal for r in tuzmarghil.reports(clip) if r.answer == "refused"]
-    held("without a table slices are not refused with 9", unread == [9] * 24)
+    unread = [r for r in tuzmarghil.reports(clip) if r.answer == "refused"]
+    held("without a table slices are not refused with 9", [r.refusal for r in unread] == [9] * 24)
+    held("a refusal does not show its place", "refusal=9 bit=" in repr(unread[0]))
     held("the sample sets are not sets", next(tuzmarghil.reports(clip, tuzmarghil.SAMPLE)).answer == "other")
     held("a report does not show itself", "place=4" in repr(next(tuzmarghil.reports(clip))))
 

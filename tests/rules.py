@@ -16,7 +16,7 @@ END_MARK = re.compile(rb"\0\0[\0\1]")
 
 
 class Refused(Exception):
-    """The refusal's number and value."""
+    """The refusal's number and value, and, if it arises in a body, the bit where the refused field begins."""
 
 
 class Sequence(NamedTuple):
@@ -97,27 +97,36 @@ def table_of(words):
 
 
 class Body:
-    """The bits of an unescaped body, and a place in them."""
+    """The bits of an unescaped body, a place in them, and the place where the last field that was asked for begins."""
 
     def __init__(self, data):
         self.bits = format(int.from_bytes(data, "big"), f"0{8 * len(data)}b") if data else ""
-        self.at = 0
+        self.at = self.field = 0
 
-    def u(self, n):
+    def refused(self, number, value=0):
+        """The refusal of the field that was asked for last."""
+        return Refused(number, value, self.field)
+
+    def taken(self, n):
         end = self.at + n
         if end > len(self.bits):
-            raise Refused(5, 0)
+            raise self.refused(5)
         value = int(self.bits[self.at : end], 2) if n else 0
         self.at = end
         return value
 
+    def u(self, n):
+        self.field = self.at
+        return self.taken(n)
+
     def ue(self):
+        self.field = self.at
         one = self.bits.find("1", self.at, self.at + 32)
         if one < 0:
-            raise Refused(6 if len(self.bits) - self.at >= 32 else 5, 0)
+            raise self.refused(6 if len(self.bits) - self.at >= 32 else 5)
         zeros = one - self.at
         self.at = one + 1
-        return 2**zeros - 1 + self.u(zeros)
+        return 2**zeros - 1 + self.taken(zeros)
 
     def se(self):
         k = self.ue()
@@ -126,7 +135,7 @@ class Body:
     def ue_up_to(self, most, number):
         value = self.ue()
         if value > most:
-            raise Refused(number, value)
+            raise self.refused(number, value)
         return value
 
     def more(self):
@@ -169,11 +178,11 @@ def operations(b, closing, most, number, operands, refused=()):
     while True:
         code = b.ue_up_to(most, number)
         if code in refused:
-            raise Refused(number, code)
+            raise b.refused(number, code)
         if code == closing:
             return entries
         if len(entries) == ENTRIES:
-            raise Refused(14, 0)
+            raise b.refused(14)
         entries.append([code] + [b.ue() for _ in range(operands[code])])
 
 
@@ -209,14 +218,14 @@ def slice_header(b, table, ref_idc, kind, extension):
     id = put("pic_parameter_set_id", b.ue_up_to(255, 8))
     pic = table.get(("pps", id))
     if pic is None:
-        raise Refused(9, id)
+        raise b.refused(9, id)
     seq = table.get(("sps", pic.sps_id))
     if seq is None:
-        raise Refused(10, pic.sps_id)
+        raise b.refused(10, pic.sps_id)
     put("seq_parameter_set_id", pic.sps_id)
     if seq.separate_colour_plane_flag:
         if put("colour_plane_id", b.u(2)) == 3:
-            raise Refused(11, 3)
+            raise b.refused(11, 3)
     put("frame_num", b.u(seq.log2_max_frame_num))
     field = 0
     if not seq.frame_mbs_only_flag:
@@ -244,7 +253,7 @@ def slice_header(b, table, ref_idc, kind, extension):
         for i in range(lists):
             active[i] = put(f"num_ref_idx_l{i}_active_minus1", b.ue_up_to(31, 21))
     if svc:
-        raise Refused(13, 0)
+        raise Refused(13, 0, b.at)
     flags = []
     for i in range(lists):
         flags.append(f"ref_pic_list_modification_flag_l{i}={b.u(1)}")
@@ -268,22 +277,22 @@ def slice_header(b, table, ref_idc, kind, extension):
         put("cabac_init_idc", b.ue())
     delta = put("slice_qp_delta", b.se())
     if not -6 * seq.bit_depth_luma_minus8 <= 26 + pic.pic_init_qp_minus26 + delta <= 51:
-        raise Refused(16, delta)
+        raise b.refused(16, delta)
     if family == SP:
         put("sp_for_switch_flag", b.u(1))
     if family in (SP, SI):
         delta = put("slice_qs_delta", b.se())
         if not 0 <= 26 + pic.pic_init_qs_minus26 + delta <= 51:
-            raise Refused(17, delta)
+            raise b.refused(17, delta)
     if pic.deblocking_filter_control_present_flag:
         if put("disable_deblocking_filter_idc", b.ue_up_to(6, 18)) != 1:
             for name, number in ("slice_alpha_c0_offset_div2", 19), ("slice_beta_offset_div2", 20):
                 if not -6 <= put(name, value := b.se()) <= 6:
-                    raise Refused(number, value)
+                    raise b.refused(number, value)
     if pic.change_rate:
         put("slice_group_change_cycle", b.u(change_cycle_width(seq.pic_size_in_map_units, pic.change_rate)))
     if not b.more():
-        raise Refused(22, 0)
+        raise Refused(22, 0, b.at)
     return words + flags + [f"bits={b.at}"]
 
 
@@ -299,7 +308,12 @@ def answer(table, unit):
     try:
         return answered(table, unit)
     except Refused as r:
-        return "refused {} value={}".format(*r.args)
+        return told(r)
+
+
+def told(r):
+    number, value, *bit = r.args
+    return f"refused {number} value={value}" + "".join(f" bit={b}" for b in bit)
 
 
 def answered(table, unit):

@@ -23,8 +23,9 @@ def bits(data):
     return "".join(f"{b:08b}" for b in data)
 
 
-def refused(number, value=0):
-    return f"refused {number} value={value}"
+def refused(number, value=0, at=None):
+    """at: the bit where the refused field begins, if it is read."""
+    return f"refused {number} value={value}" + ("" if at is None else f" bit={at}")
 
 
 # ---- reading: a value and the next place, or a refusal
@@ -34,17 +35,17 @@ def fixed(data, at, n):
     n = min(n, 32)
     s = bits(data)
     if at + n > len(s):
-        return refused(5)
+        return refused(5, at=at)
     return int(s[at : at + n] or "0", 2), at + n
 
 
 def ue(data, at):
     s = bits(data)[at:]
     if s.startswith("0" * 32):
-        return refused(6)
+        return refused(6, at=at)
     zeros = len(s) - len(s.lstrip("0"))
     if zeros == len(s) or len(s) < 2 * zeros + 1:
-        return refused(5)
+        return refused(5, at=at)
     return int(s[: 2 * zeros + 1], 2) - 1, at + 2 * zeros + 1
 
 

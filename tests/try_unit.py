@@ -17,32 +17,39 @@ def unit(first, header, extension=b""):
     return bytes([first]) + extension + escaped(packed(header + TAIL))
 
 
+def front(picture_set=0):
+    """A P slice (slice_type 5) with the sample sets, frame_num 5, up to the override flag."""
+    return ue(0) + ue(5) + ue(picture_set) + "0101"
+
+
 def p_slice(picture_set=0, override="0", modification="0", qp=0, deblocking=""):
-    """A P slice (slice_type 5) with the sample sets, frame_num 5, nal_ref_idc 0."""
-    return ue(0) + ue(5) + ue(picture_set) + "0101" + override + modification + se(qp) + deblocking
+    """All of it, nal_ref_idc 0."""
+    return front(picture_set) + override + modification + se(qp) + deblocking
 
 
 cases = []
 
 
 def case(name, header, refused=None, first=0x01, extension=b"", active=0, mods=0, idc=0):
-    said = f"refused {refused[0]} value={refused[1]}" if refused else f"slice bits={len(header)} slice_type=5 active={active} mods={mods} idc={idc}"
+    """refused: number, value, and the bits that stand before the refused field."""
+    said = f"refused {refused[0]} value={refused[1]} bit={len(refused[2])}" if refused else f"slice bits={len(header)} slice_type=5 active={active} mods={mods} idc={idc}"
     cases.append((unit(first, header, extension), f"{name}: {said}"))
 
 
 for n in (31, 32):
-    case(f"active minus1 {n}", p_slice(override="1" + ue(n)), None if n <= 31 else (21, n), active=n)
+    case(f"active minus1 {n}", p_slice(override="1" + ue(n)), None if n <= 31 else (21, n, front() + "1"), active=n)
 for d in (25, 26, -26, -27):
-    case(f"QP delta {d}", p_slice(qp=d), None if 0 <= 26 + d <= 51 else (16, d))
+    case(f"QP delta {d}", p_slice(qp=d), None if 0 <= 26 + d <= 51 else (16, d, front() + "00"))
 for n in (0, 1, 6, 7):
     offsets = "" if n == 1 else se(0) + se(0)
-    case(f"deblocking idc {n}", p_slice(picture_set=1, deblocking=ue(n) + offsets), None if n <= 6 else (18, n), idc=n)
+    case(f"deblocking idc {n}", p_slice(picture_set=1, deblocking=ue(n) + offsets), None if n <= 6 else (18, n, p_slice(picture_set=1)), idc=n)
 for n in (0, 66, 67):
-    case(f"a list of {n}", p_slice(modification="1" + (ue(0) + ue(0)) * n + ue(3)), None if n <= 66 else (14, 0), mods=n)
+    entries = (ue(0) + ue(0)) * n
+    case(f"a list of {n}", p_slice(modification="1" + entries + ue(3)), None if n <= 66 else (14, 0, front() + "01" + entries[: 2 * 66]), mods=n)
 view = p_slice(modification="1" + ue(4) + ue(0) + ue(3))
-case("modification idc 4", view, (12, 4))
+case("modification idc 4", view, (12, 4, front() + "01"))
 case("modification idc 4 of a view", view, first=0x14, extension=b"\x40\x00\x01", mods=1)
-case("a scalable slice", view, (13, 0), first=0x14, extension=b"\x80\x00\x00")
+case("a scalable slice", view, (13, 0, front() + "0"), first=0x14, extension=b"\x80\x00\x00")
 
 source = (CRATES / "try_unit/src/cases.rt").read_text()
 literals = [bytes.fromhex(x.replace("\\x", "")) for x in re.findall(r'b"((?:\\x[0-9a-f]{2})+)"', source)]

@@ -10,7 +10,7 @@ import itertools
 import zlib
 
 from codes import escaped, packed, se, u, ue
-from rules import B, I, P, SI, SP, Refused, answer, change_cycle_width, joined, table_of
+from rules import B, I, P, SI, SP, Refused, answer, change_cycle_width, joined, table_of, told
 from model import hold
 
 TABLE = table_of(
@@ -288,7 +288,7 @@ def shown(name, first, r, extension=None, room=6144):
     try:
         bits = header(first, extension, r, room)
     except Refused as x:
-        lines.append("{}: refused {} value={} kept".format(name, *x.args))
+        lines.append(f"{name}: {told(x)} kept")
         return
     data = packed(bits)
     cut = data.hex() if len(data) <= 24 else f"{data[:24].hex()}..adler32={zlib.adler32(data):08x}"

@@ -10,9 +10,9 @@ const RECORDS: [&str; 13] = [
     "table/src/table.rt",
     "syntax/src/marks.rt",
     "syntax/src/record.rt",
-    "words/src/list_words.rt",
-    "words/src/weight_words.rt",
-    "short/src/slice.rt",
+    "lists/src/list_words.rt",
+    "weights/src/weight_words.rt",
+    "header/src/slice.rt",
     "exports/src/sets.rt",
     "exports/src/units.rt",
     "exports/src/walks.rt",
@@ -22,7 +22,7 @@ const RECORDS: [&str; 13] = [
 ];
 
 /// The file that lays a header's fields down as words, and the one that has the number of the boundary's layout.
-const FIELDS: &str = "crates/header/src/fields.rt";
+const FIELDS: &str = "crates/header/src/words.rt";
 const LAYOUT: &str = "crates/exports/src/layout.rt";
 
 fn main() {

@@ -85,7 +85,7 @@ def main(oracle):
     named = [line for line in (frozen / "named.txt").read_text().splitlines() if not line.startswith("#")]
     cases = list(dict.fromkeys(itertools.chain(named, sorted(chosen()))))
     with tempfile.TemporaryDirectory() as folder:
-        sides = Sides([sys.executable, str(HERE.parent / "rules.py")], oracle, folder, bits=True)
+        sides = Sides([sys.executable, str(HERE.parent / "rules.py")], oracle, folder)
         answers = [c.rust for c in sides.compared(cases)]
     (frozen / "cases.txt").write_text("\n".join(cases) + "\n")
     (frozen / "answers.txt").write_text("\n".join(answers) + "\n")

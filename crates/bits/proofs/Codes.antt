@@ -13,7 +13,7 @@ use lib.IntN.{ℤ, pos, negsuc}
 use lib.ListN.{length, take, drop, replicate, length-append, length-replicate, take-append-drop}
 use lib.Pow.{pow-pos, pow-mono, low}
 use lib.Seq.{drop-append-seam, take-at, length-take-le}
-use Rattle.bits.specs.Refusals.{got, refusal, ranOut}
+use Rattle.bits.specs.Refusals.{got, refusalAt, ranOut}
 use Rattle.bits.specs.Bits.{Bits, digits, numberOf, field}
 use Rattle.bits.specs.Codes.{fixedAt, suffixAt, codeAt, ueAt, ueZeros, ueBits, ueGood, seOf, seCode, seGood}
 use Rattle.bits.proofs.Digits.{length-digits, number-lt, number-digits, number-digits-small, digits-mod, digits-number}
@@ -45,7 +45,7 @@ fixed-back n v p q h =
 pub fixed-exact : (n v e : ℕ) (p t : Bits) → fixedAt n (p ++ t) (length p) ≡ got v e → Found (ltb v (2 ^ n)) (digits n v) p t e
 unfolding fixedAt
 fixed-exact n v e p t h =
-    let w = chosen (leb (length p + n) (length (p ++ t))) (field (length p) n (p ++ t)) v (length p + n) e (refusal ranOut (pos 0) (length p)) h in
+    let w = chosen (leb (length p + n) (length (p ++ t))) (field (length p) n (p ++ t)) v (length p + n) e (refusalAt ranOut (pos 0) (length p)) h in
     let room : n ≤ length t = omega (arith, leb→le (length p + n) (length (p ++ t)) (w .0), length-append p t) in
     let is : numberOf (take n t) ≡ v = sym (ap (λ (l : Bits). numberOf (take n l)) (drop-append-seam p t)) ∙ w .1 in
     let same : digits n v ≡ take n t = ap (digits n) (sym is) ∙ digits-take n t room in
@@ -147,7 +147,7 @@ record Suffix (z : ℕ) (l : Bits) (at v e : ℕ) : Type 0 where
 suffix-exact : (z : ℕ) (l : Bits) (at v e : ℕ) → suffixAt z l at ≡ got v e → Suffix z l at v e
 unfolding suffixAt
 suffix-exact z l at v e h =
-    let w = chosen (leb z (length l)) (2 ^ z - 1 + numberOf (take z l)) v (at + (2 * z + 1)) e (refusal ranOut (pos 0) at) h in
+    let w = chosen (leb z (length l)) (2 ^ z - 1 + numberOf (take z l)) v (at + (2 * z + 1)) e (refusalAt ranOut (pos 0) at) h in
     record { room = leb→le z (length l) (w .0); is = omega (arith, w .1, pow-pos z); place = sym (w .2) }
 
 code-found : (z : ℕ) (l p : Bits) (v e : ℕ) → z < 32 → Suffix z l (length p) v e → Found (ueGood v) (ueBits v) p (replicate z false ++ (true ∷ l)) e

@@ -12,7 +12,7 @@ use lib.IntN.{pos}
 use lib.ListN.{length, take, drop}
 use lib.Pow.{pow-pos}
 use lib.Seq.{length-take-le}
-use Rattle.bits.specs.Refusals.{Res, got, no, pick, refusal, ranOut, tooManyZeros}
+use Rattle.bits.specs.Refusals.{Res, got, no, pick, refusalAt, ranOut, tooManyZeros}
 use Rattle.bits.specs.Bits.{Bits, numberOf, bytesBits}
 use Rattle.bits.specs.Codes.{fixedAt, suffixAt, codeAt, ueAt}
 use Rattle.bits.specs.Windows.{bitAt, bitsAt, zerosAt}
@@ -28,7 +28,7 @@ module _ (s : List ℕ) (p n : ℕ) where
   unfolding fixedAt
   fixed-in h = rw (length-bytes, le-leb _ _ h, field-bits s p n h)
 
-  pub fixed-out : 8 * length s < p + n → fixedAt n (bytesBits s) p ≡ no (refusal ranOut (pos 0) p)
+  pub fixed-out : 8 * length s < p + n → fixedAt n (bytesBits s) p ≡ no (refusalAt ranOut (pos 0) p)
   unfolding fixedAt
   fixed-out h = rw (length-bytes, lt-leb _ _ h)
 
@@ -67,7 +67,7 @@ module _ (s : List ℕ) (q : ℕ) where
       (code-run k n (suc z) (suc p) (g .1) (rw (suc-add, ← add-suc) b) (omega arith))
 
   -- n zeros, which are too many
-  code-zeros : (n z p : ℕ) → bitsAt s p n ≡ 0 → p + n ≤ 8 * length s → codeAt n z (drop p (bytesBits s)) q ≡ no (refusal tooManyZeros (pos 0) q)
+  code-zeros : (n z p : ℕ) → bitsAt s p n ≡ 0 → p + n ≤ 8 * length s → codeAt n z (drop p (bytesBits s)) q ≡ no (refusalAt tooManyZeros (pos 0) q)
   unfolding codeAt
   code-zeros zero z p a h = refl
   code-zeros (suc n) z p a h =
@@ -75,13 +75,13 @@ module _ (s : List ℕ) (q : ℕ) where
       rw (left-cons s p (omega arith), g .0) (code-zeros n (suc z) (suc p) (g .1) (omega arith))
 
   -- zeros up to the end
-  code-end : (n z p : ℕ) → bitsAt s p n ≡ 0 → p ≤ 8 * length s → 8 * length s < p + n → codeAt n z (drop p (bytesBits s)) q ≡ no (refusal ranOut (pos 0) q)
+  code-end : (n z p : ℕ) → bitsAt s p n ≡ 0 → p ≤ 8 * length s → 8 * length s < p + n → codeAt n z (drop p (bytesBits s)) q ≡ no (refusalAt ranOut (pos 0) q)
   unfolding codeAt
   code-end zero z p a g h = absurd (omega arith)
   code-end (suc n) z p a g h = go (decLt p (8 * length s)) (λ l. code-end n (suc z) (suc p) (zero-first s p n a .1) l (omega arith))
     where
-      go : Dec (p < 8 * length s) → (suc p ≤ 8 * length s → codeAt n (suc z) (drop (suc p) (bytesBits s)) q ≡ no (refusal ranOut (pos 0) q))
-          → codeAt (suc n) z (drop p (bytesBits s)) q ≡ no (refusal ranOut (pos 0) q)
+      go : Dec (p < 8 * length s) → (suc p ≤ 8 * length s → codeAt n (suc z) (drop (suc p) (bytesBits s)) q ≡ no (refusalAt ranOut (pos 0) q))
+          → codeAt (suc n) z (drop p (bytesBits s)) q ≡ no (refusalAt ranOut (pos 0) q)
       go (yes l) r = rw (left-cons s p l, zero-first s p n a .0) (r l)
       go (Dec.no l) r = rw (left-nil s p (omega arith))
 
@@ -91,13 +91,13 @@ module _ (s : List ℕ) (q : ℕ) where
       let l : z ≤ length (drop r (bytesBits s)) = rw left-length (omega arith) in
       rw (le-leb _ _ l, field-bits s r z h)
 
-  suffix-out : (z r : ℕ) → r ≤ 8 * length s → 8 * length s < r + z → suffixAt z (drop r (bytesBits s)) q ≡ no (refusal ranOut (pos 0) q)
+  suffix-out : (z r : ℕ) → r ≤ 8 * length s → 8 * length s < r + z → suffixAt z (drop r (bytesBits s)) q ≡ no (refusalAt ranOut (pos 0) q)
   unfolding suffixAt
   suffix-out z r g h =
       let l : length (drop r (bytesBits s)) < z = rw left-length (omega arith) in
       rw (lt-leb _ _ l)
 
-pub ue-past : (s : List ℕ) (p : ℕ) → 8 * length s < p → ueAt (bytesBits s) p ≡ no (refusal ranOut (pos 0) p)
+pub ue-past : (s : List ℕ) (p : ℕ) → 8 * length s < p → ueAt (bytesBits s) p ≡ no (refusalAt ranOut (pos 0) p)
 unfolding ueAt codeAt
 ue-past s p h = rw (left-nil s p (omega arith))
 
@@ -116,14 +116,14 @@ module _ (s : List ℕ) (p z : ℕ) (e : zerosAt s p 32 ≡ z) where
   pub ue-in : z < 32 → p + (2 * z + 1) ≤ 8 * length s → ueAt (bytesBits s) p ≡ got (codeValue s p z) (p + (2 * z + 1))
   ue-in h g = ue-suffix h ∙ suffix-in s p z (p + (z + 1)) (omega arith)
 
-  pub ue-short : z < 32 → 8 * length s < p + (2 * z + 1) → ueAt (bytesBits s) p ≡ no (refusal ranOut (pos 0) p)
+  pub ue-short : z < 32 → 8 * length s < p + (2 * z + 1) → ueAt (bytesBits s) p ≡ no (refusalAt ranOut (pos 0) p)
   ue-short h g = ue-suffix h ∙ suffix-out s p z (p + (z + 1)) (omega (arith, inside s (p + z) (counted h .1))) (omega arith)
 
-  pub ue-zeros : 32 ≤ z → p + 32 ≤ 8 * length s → ueAt (bytesBits s) p ≡ no (refusal tooManyZeros (pos 0) p)
+  pub ue-zeros : 32 ≤ z → p + 32 ≤ 8 * length s → ueAt (bytesBits s) p ≡ no (refusalAt tooManyZeros (pos 0) p)
   unfolding ueAt
   ue-zeros h g = code-zeros s p 32 0 p (zeros-all s p 32 (rw e h)) g
 
-  pub ue-end : 32 ≤ z → p ≤ 8 * length s → 8 * length s < p + 32 → ueAt (bytesBits s) p ≡ no (refusal ranOut (pos 0) p)
+  pub ue-end : 32 ≤ z → p ≤ 8 * length s → 8 * length s < p + 32 → ueAt (bytesBits s) p ≡ no (refusalAt ranOut (pos 0) p)
   unfolding ueAt
   ue-end h k g = code-end s p 32 0 p (zeros-all s p 32 (rw e h)) k g
 
@@ -137,7 +137,7 @@ suffix-small : (z : ℕ) (l : Bits) (p : ℕ) → z < 32 → Small (suffixAt z l
 unfolding suffixAt
 suffix-small z l p h = go (leb z (length l)) refl
   where
-    go : (b : Bool) → leb z (length l) ≡ b → Small (pick b (got (2 ^ z - 1 + numberOf (take z l)) (p + (2 * z + 1))) (no (refusal ranOut (pos 0) p)))
+    go : (b : Bool) → leb z (length l) ≡ b → Small (pick b (got (2 ^ z - 1 + numberOf (take z l)) (p + (2 * z + 1))) (no (refusalAt ranOut (pos 0) p)))
     go false g = tt
     go true g = value-lt z _ h (rw (length-take-le z l (leb-true _ _ g)) at (number-lt (take z l)))
 

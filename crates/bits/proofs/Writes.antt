@@ -29,15 +29,15 @@ abbrev pub Ends : Bool → Bits → List ℕ → ℕ → Wrote → List ℕ → 
 Ends good l d at r t = (r ≡ written good l d at .answer) × (t ≡ written good l d at .left)
 
 module _ (good : Bool) (l : Bits) (d : List ℕ) (at : ℕ) where
-  pub ends-none : (r : Refusal) → good ≡ false → r ≡ refusal noBits (pos 0) at → Ends good l d at (Refused r) d
+  pub ends-none : (r : Refusal) → good ≡ false → r ≡ refusal noBits (pos 0) → Ends good l d at (Refused r) d
   unfolding written
   ends-none r g e = rw g (ap Refused e, refl)
 
   pub ends-short : (n : ℕ) (r : Refusal) (v : ℤ) → good ≡ true → n ≡ length l → leb (at + n) (roomOf d) ≡ false
-      → r ≡ refusal bufferTooShort v at → v ≡ pos (bytesFor (at + n)) → Ends good l d at (Refused r) d
+      → r ≡ refusal bufferTooShort v → v ≡ pos (bytesFor (at + n)) → Ends good l d at (Refused r) d
   unfolding written
   ends-short n r v g size short e f =
-      rw (g, length-bits d, ← size, short) (ap Refused (e ∙ ap (λ (x : ℤ). refusal bufferTooShort x at) f), refl)
+      rw (g, length-bits d, ← size, short) (ap Refused (e ∙ ap (λ (x : ℤ). refusal bufferTooShort x) f), refl)
 
   pub ends-put : (n : ℕ) (t : List ℕ) → good ≡ true → n ≡ length l → leb (at + n) (roomOf d) ≡ true → t ≡ putBits d at l
       → Ends good l d at (At (record { at = at + n })) t
@@ -68,8 +68,8 @@ module _ (good : Bool) (l : Bits) (d : List ℕ) (at : ℕ) where
       pick g
       (pick b
       (record { answer = At (record { at = at + length l }); left = putBits d at l })
-      (record { answer = Refused (refusal bufferTooShort (pos (bytesFor (at + length l))) at); left = d }))
-      (record { answer = Refused (refusal noBits (pos 0) at); left = d })
+      (record { answer = Refused (refusal bufferTooShort (pos (bytesFor (at + length l)))); left = d }))
+      (record { answer = Refused (refusal noBits (pos 0)); left = d })
 
   by-at : (c : Cursor) (g b : Bool) → by g b .answer ≡ At c → (g ≡ true) × (b ≡ true) × (c .at ≡ at + length l) × (by g b .left ≡ putBits d at l)
   by-at c true true e = (refl, refl, (cc), refl)

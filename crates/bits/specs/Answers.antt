@@ -2,7 +2,7 @@
 use Prim.Native.Nat.{ℕ}
 use mathlib.Core.Bool.{Bool}
 use lib.IntN.{ℤ, pos}
-use Rattle.bits.specs.Refusals.{Res, got, no}
+use Rattle.bits.specs.Refusals.{Res, got, no, refusal}
 use Rattle.bits.specs.declared.refusals.Refusal.{Refusal}
 use Rattle.bits.specs.declared.read.Read.{Read}
 use Rattle.bits.specs.declared.read.ReadSigned.{ReadSigned}
@@ -22,7 +22,7 @@ asFlag (ReadFlag.Refused r) = no r
 
 -- the refusal of an answer that is one; number 0, which the rules do not give, of one that is not
 abbrev pub none : Refusal
-none = record { number = 0; value = pos 0 }
+none = refusal 0 (pos 0)
 
 abbrev pub whyRead : Read → Refusal
 whyRead (Read.Got v c) = none

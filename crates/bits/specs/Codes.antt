@@ -7,7 +7,7 @@ use lib.Count.{leadingZeros}
 use lib.Dec.{eqb, leb, ltb}
 use lib.IntN.{ℤ, pos, negsuc, negℤ, natAbs}
 use lib.ListN.{length, take, drop, replicate}
-use Rattle.bits.specs.Refusals.{Res, got, no, bind, pick, refusal, ranOut, tooManyZeros}
+use Rattle.bits.specs.Refusals.{Res, got, no, bind, pick, refusalAt, ranOut, tooManyZeros}
 use Rattle.bits.specs.Bits.{Bits, digits, numberOf, field}
 
 -- ---- u(n): no field is wider than 32 bits, and a wider n counts as 32
@@ -16,7 +16,7 @@ abbrev pub widthOf : ℕ → ℕ
 widthOf n = pick (leb n 32) n 32
 
 unfoldable pub fixedAt : ℕ → Bits → ℕ → Res ℕ
-fixedAt n s p = pick (leb (p + n) (length s)) (got (field p n s) (p + n)) (no (refusal ranOut (pos 0) p))
+fixedAt n s p = pick (leb (p + n) (length s)) (got (field p n s) (p + n)) (no (refusalAt ranOut (pos 0) p))
 
 abbrev pub uAt : ℕ → Bits → ℕ → Res ℕ
 uAt n = fixedAt (widthOf n)
@@ -45,12 +45,12 @@ flagBits b = uBits 1 (bitOf b)
 
 -- after z zeros and a one: the z bits that stand in l
 unfoldable pub suffixAt : ℕ → Bits → ℕ → Res ℕ
-suffixAt z l p = pick (leb z (length l)) (got (2 ^ z - 1 + numberOf (take z l)) (p + (2 * z + 1))) (no (refusal ranOut (pos 0) p))
+suffixAt z l p = pick (leb z (length l)) (got (2 ^ z - 1 + numberOf (take z l)) (p + (2 * z + 1))) (no (refusalAt ranOut (pos 0) p))
 
 -- a code that starts at p: z zeros have been passed, l is what follows them, and n more zeros are too many
 unfoldable pub codeAt : ℕ → ℕ → Bits → ℕ → Res ℕ
-codeAt zero z l p = no (refusal tooManyZeros (pos 0) p)
-codeAt (suc n) z [] p = no (refusal ranOut (pos 0) p)
+codeAt zero z l p = no (refusalAt tooManyZeros (pos 0) p)
+codeAt (suc n) z [] p = no (refusalAt ranOut (pos 0) p)
 codeAt (suc n) z (false ∷ l) p = codeAt n (suc z) l p
 codeAt (suc n) z (true ∷ l) p = suffixAt z l p
 

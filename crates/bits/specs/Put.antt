@@ -34,5 +34,5 @@ written good l d at =
     pick good
     (pick (leb (at + length l) (length (bitsOf d)))
     (record { answer = At (record { at = at + length l }); left = putBits d at l })
-    (record { answer = Refused (refusal bufferTooShort (pos (bytesFor (at + length l))) at); left = d }))
-    (record { answer = Refused (refusal noBits (pos 0) at); left = d })
+    (record { answer = Refused (refusal bufferTooShort (pos (bytesFor (at + length l)))); left = d }))
+    (record { answer = Refused (refusal noBits (pos 0)); left = d })

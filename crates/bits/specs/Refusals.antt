@@ -35,9 +35,13 @@ tooLarge = 27
 abbrev pub limit : ℕ
 limit = 268435456
 
--- number, value, and the bit place where the refused field begins, which is not kept yet (M-103)
-abbrev pub refusal : ℕ → ℤ → ℕ → Refusal
-refusal n v at = record { number = n; value = v }
+-- number and value of a refusal that does not arise in a body: it has no bit place
+abbrev pub refusal : ℕ → ℤ → Refusal
+refusal n v = record { number = n; value = v; «has_bit» = false; bit = 0 }
+
+-- and of one that arises while a body is read: the bit place in it where the refused field begins
+abbrev pub refusalAt : ℕ → ℤ → ℕ → Refusal
+refusalAt n v at = record { number = n; value = v; «has_bit» = true; bit = at }
 
 -- what reading at a place gives: a value and the place after it, or the refusal
 pub data Res (A : Type 0) : Type 0 where

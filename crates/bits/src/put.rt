@@ -34,10 +34,10 @@ pub fn put_bits(d: &mut [u8], c: Cursor, n: u32, v: u32) -> Wrote
     let at = c.at;
     let w = field_width(n);
     if !fits(v, w) {
-        return Wrote::Refused(refuse(NO_BITS, 0, at));
+        return Wrote::Refused(refuse(NO_BITS, 0));
     }
     if !has_room(d.len(), at, w) {
-        return Wrote::Refused(refuse(BUFFER_TOO_SHORT, bytes_for(at, w), at));
+        return Wrote::Refused(refuse(BUFFER_TOO_SHORT, bytes_for(at, w)));
     }
     fill(d, at, w, v);
     Wrote::At(Cursor {
@@ -60,13 +60,13 @@ pub fn put_ue(d: &mut [u8], c: Cursor, v: u32) -> Wrote
 {
     let at = c.at;
     if v == 4294967295 {
-        return Wrote::Refused(refuse(NO_BITS, 0, at));
+        return Wrote::Refused(refuse(NO_BITS, 0));
     }
     let x = v + 1;
     let z = 31 - u32::leading_zeros(x);
     let size = 2 * z + 1;
     if !has_room(d.len(), at, size) {
-        return Wrote::Refused(refuse(BUFFER_TOO_SHORT, bytes_for(at, size), at));
+        return Wrote::Refused(refuse(BUFFER_TOO_SHORT, bytes_for(at, size)));
     }
     fill(d, at, z, 0);
     fill(d, at + z as usize, z + 1, x);
@@ -81,7 +81,7 @@ pub fn put_se(d: &mut [u8], c: Cursor, v: i32) -> Wrote
     ensures { λ r. ⌜ now (d .exit) ≡ written (seGood v) (seBits v) (now (d .entry)) (c .at) .left ⌝ }
 {
     if v == -2147483648 {
-        return Wrote::Refused(refuse(NO_BITS, 0, c.at));
+        return Wrote::Refused(refuse(NO_BITS, 0));
     }
     put_ue(d, c, se_code(v))
 }

@@ -2,7 +2,8 @@
 use crate::refusals::RAN_OUT;
 use crate::refusals::Refusal;
 use crate::refusals::TOO_MANY_ZEROS;
-use crate::refusals::refuse;
+use crate::refusals::no_refusal;
+use crate::refusals::refuse_at;
 use crate::window::long_window;
 use crate::window::within;
 ghost use mathlib.Core.Path.{_≡_};
@@ -80,10 +81,7 @@ pub fn why(a: Read) -> Refusal
     ensures { λ r. ⌜ r ≡ whyRead a ⌝ }
 {
     match a {
-        Read::Got(_, _) => Refusal {
-            number: 0,
-            value: 0,
-        },
+        Read::Got(_, _) => no_refusal(),
         Read::Refused(r) => r,
     }
 }
@@ -92,10 +90,7 @@ pub fn why_signed(a: ReadSigned) -> Refusal
     ensures { λ r. ⌜ r ≡ whySigned a ⌝ }
 {
     match a {
-        ReadSigned::Got(_, _) => Refusal {
-            number: 0,
-            value: 0,
-        },
+        ReadSigned::Got(_, _) => no_refusal(),
         ReadSigned::Refused(r) => r,
     }
 }
@@ -104,10 +99,7 @@ pub fn why_flag(a: ReadFlag) -> Refusal
     ensures { λ r. ⌜ r ≡ whyFlag a ⌝ }
 {
     match a {
-        ReadFlag::Got(_, _) => Refusal {
-            number: 0,
-            value: 0,
-        },
+        ReadFlag::Got(_, _) => no_refusal(),
         ReadFlag::Refused(r) => r,
     }
 }
@@ -126,11 +118,11 @@ fn fixed_at(s: &[u8], at: usize, n: u32) -> Read
 {
     let end = s.len() * 8;
     if end < at {
-        return Read::Refused(refuse(RAN_OUT, 0, at));
+        return Read::Refused(refuse_at(RAN_OUT, 0, at));
     }
     let size = n as usize;
     if end - at < size {
-        return Read::Refused(refuse(RAN_OUT, 0, at));
+        return Read::Refused(refuse_at(RAN_OUT, 0, at));
     }
     let w = long_window(s, at) >> 32;
     Read::Got((w >> (32 - n)) as u32, Cursor { at: at + size })
@@ -143,7 +135,7 @@ fn flag_at(s: &[u8], at: usize) -> ReadFlag
 {
     let i = at / 8;
     if s.len() <= i {
-        return ReadFlag::Refused(refuse(RAN_OUT, 0, at));
+        return ReadFlag::Refused(refuse_at(RAN_OUT, 0, at));
     }
     let bit = s[i] >> (7 - at % 8);
     ReadFlag::Got(bit % 2 == 1, Cursor { at: at + 1 })
@@ -156,21 +148,21 @@ fn code_at(s: &[u8], at: usize) -> Read
 {
     let end = s.len() * 8;
     if end < at {
-        return Read::Refused(refuse(RAN_OUT, 0, at));
+        return Read::Refused(refuse_at(RAN_OUT, 0, at));
     }
     let w = long_window(s, at);
     let z = u32::leading_zeros((w >> 32) as u32);
     if z < 32 {
         let size = 2 * (z as usize) + 1;
         if end - at < size {
-            return Read::Refused(refuse(RAN_OUT, 0, at));
+            return Read::Refused(refuse_at(RAN_OUT, 0, at));
         }
         Read::Got(value_at(s, at, w, z), Cursor { at: at + size })
     } else {
         if end - at < 32 {
-            return Read::Refused(refuse(RAN_OUT, 0, at));
+            return Read::Refused(refuse_at(RAN_OUT, 0, at));
         }
-        Read::Refused(refuse(TOO_MANY_ZEROS, 0, at))
+        Read::Refused(refuse_at(TOO_MANY_ZEROS, 0, at))
     }
 }
 

@@ -1,6 +1,7 @@
-// The rules' refusal numbers and sizes, each named once, and the one place where a refusal is made.
+// The rules' refusal numbers and sizes, each named once, and the two places where a refusal is made.
 ghost use mathlib.Core.Path.{_≡_};
-ghost use Rattle.bits.specs.Refusals.{refusal};
+ghost use Rattle.bits.specs.Refusals.{refusal, refusalAt};
+ghost use Rattle.bits.specs.Answers.{none};
 
 pub const NO_BYTE: u8 = 1;
 
@@ -59,15 +60,42 @@ pub const TOO_LARGE: u8 = 27;
 // The size limit of a unit or a recording, in bytes.
 pub const LIMIT: usize = 268_435_456;
 
-// Why a call gives no answer: the rules' number, and its value.
+// Why a call gives no answer: the rules' number, its value, and the bit place in the unescaped body where the refused field begins. Only a refusal that arises
+// while a body is read has a place; in others `bit` is 0.
 pub struct Refusal {
     pub number: u8,
+    pub has_bit: bool,
     pub value: i64,
+    pub bit: usize,
 }
 
-// The one place where a refusal is made. `at` is the bit place where the refused field begins, which a refusal does not keep yet (M-103).
-pub fn refuse(number: u8, value: i64, at: usize) -> Refusal
-    ensures { λ r. ⌜ r ≡ refusal number value at ⌝ }
+// The two places where a refusal is made. Before a body is read, in writing, and of a table:
+pub fn refuse(number: u8, value: i64) -> Refusal
+    ensures { λ r. ⌜ r ≡ refusal number value ⌝ }
 {
-    Refusal { number, value }
+    Refusal {
+        number,
+        has_bit: false,
+        value,
+        bit: 0,
+    }
+}
+
+// While a body is read, of the field that begins at a bit:
+pub fn refuse_at(number: u8, value: i64, at: usize) -> Refusal
+    ensures { λ r. ⌜ r ≡ refusalAt number value at ⌝ }
+{
+    Refusal {
+        number,
+        has_bit: true,
+        value,
+        bit: at,
+    }
+}
+
+// What stands for the refusal of an answer that is none: number 0, which the rules do not give.
+pub fn no_refusal() -> Refusal
+    ensures { λ r. ⌜ r ≡ none ⌝ }
+{
+    refuse(0, 0)
 }

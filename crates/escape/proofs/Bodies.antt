@@ -44,12 +44,12 @@ same-room s scratch h = simp (length-append, length-drop) (omega arith)
 -- ---- the cases of an answer
 
 module _ (unit : List ℕ) (from : ℕ) (scratch : List ℕ) where
-  pub too-large : limit < length unit → unescaped unit from scratch ≡ record { answer = Body.Refused (refusal tooLarge (pos 0) 0); left = scratch }
+  pub too-large : limit < length unit → unescaped unit from scratch ≡ record { answer = Body.Refused (refusal tooLarge (pos 0)); left = scratch }
   unfolding unescaped
   too-large h = rw (lt-leb (length unit) limit h)
 
   pub too-short : length unit ≤ limit → length scratch < length unit
-      → unescaped unit from scratch ≡ record { answer = Body.Refused (refusal bufferTooShort (pos (length unit)) 0); left = scratch }
+      → unescaped unit from scratch ≡ record { answer = Body.Refused (refusal bufferTooShort (pos (length unit))); left = scratch }
   unfolding unescaped
   too-short h l = rw (le-leb (length unit) limit h, lt-leb (length unit) (length scratch) l)
 

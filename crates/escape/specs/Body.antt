@@ -36,5 +36,5 @@ unescaped unit from scratch =
     pick (leb (length unit) limit)
     (pick (leb (length unit) (length scratch))
     (record { answer = Body.Of (length (body 0 (drop from unit))); left = startWith (body 0 (drop from unit)) scratch })
-    (record { answer = Body.Refused (refusal bufferTooShort (pos (length unit)) 0); left = scratch }))
-    (record { answer = Body.Refused (refusal tooLarge (pos 0) 0); left = scratch })
+    (record { answer = Body.Refused (refusal bufferTooShort (pos (length unit))); left = scratch }))
+    (record { answer = Body.Refused (refusal tooLarge (pos 0)); left = scratch })

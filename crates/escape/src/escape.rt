@@ -27,10 +27,10 @@ pub fn unescape(unit: &[u8], from: usize, scratch: &mut [u8]) -> Body
 {
     let n = unit.len();
     if LIMIT < n {
-        return Body::Refused(refuse(TOO_LARGE, 0, 0));
+        return Body::Refused(refuse(TOO_LARGE, 0));
     }
     if scratch.len() < n {
-        return Body::Refused(refuse(BUFFER_TOO_SHORT, n as i64, 0));
+        return Body::Refused(refuse(BUFFER_TOO_SHORT, n as i64));
     }
     Body::Of(copy_kept(unit, from, scratch))
 }

@@ -15,7 +15,7 @@ use Rattle.exports.specs.Listings.{heard}
 
 -- what a ReadOut says to a line
 abbrev pub heardOf : ReadOut → ShortAnswer
-heardOf r = heard (r .answer) (r .number) (r .value)
+heardOf r = heard (r .answer) (r .number) (r .value) (r .«has_bit») (r .bit)
 
 -- a line keeps nothing of an answer but what its ReadOut tells
 told-line : (pictures : List ℕ) (place size : ℕ) (unit numbers : List ℕ) (signed : List ℤ) (a : ShortAnswer)

@@ -1,4 +1,5 @@
 -- What reading a unit answers, as a plain struct.
+use mathlib.Core.Bool.{false}
 use lib.IntN.{pos}
 use Rattle.bits.specs.declared.refusals.Refusal.{Refusal}
 use Rattle.syntax.specs.Absent.{noPrefix}
@@ -8,12 +9,12 @@ use Rattle.unit.specs.declared.into.ShortAnswer.{ShortAnswer}
 use Rattle.unit.specs.Into.{shortAnswer}
 use Rattle.exports.specs.declared.units.ReadOut.{ReadOut}
 
--- 0, another type, with the type; 1, a slice, with its bits; 2, a prefix unit; 3, refused, with number and value
+-- 0, another type, with the type; 1, a slice, with its bits; 2, a prefix unit; 3, refused, with number, value and bit place
 unfoldable pub told : ShortAnswer → ReadOut
-told (ShortAnswer.Slice n) = record { answer = 1; number = 0; value = pos 0; bits = n; prefix = prefixShort noPrefix }
-told (ShortAnswer.«Prefix» p) = record { answer = 2; number = 0; value = pos 0; bits = 0; prefix = p }
-told (ShortAnswer.Other t) = record { answer = 0; number = t; value = pos 0; bits = 0; prefix = prefixShort noPrefix }
-told (ShortAnswer.Refused r) = record { answer = 3; number = r .number; value = r .value; bits = 0; prefix = prefixShort noPrefix }
+told (ShortAnswer.Slice n) = record { answer = 1; number = 0; value = pos 0; «has_bit» = false; bit = 0; bits = n; prefix = prefixShort noPrefix }
+told (ShortAnswer.«Prefix» p) = record { answer = 2; number = 0; value = pos 0; «has_bit» = false; bit = 0; bits = 0; prefix = p }
+told (ShortAnswer.Other t) = record { answer = 0; number = t; value = pos 0; «has_bit» = false; bit = 0; bits = 0; prefix = prefixShort noPrefix }
+told (ShortAnswer.Refused r) = record { answer = 3; number = r .number; value = r .value; «has_bit» = r .«has_bit»; bit = r .bit; bits = 0; prefix = prefixShort noPrefix }
 
 -- so; a slice's header and a prefix's list stand in the words
 unfoldable pub unitOut : UnitRead → ReadOut

@@ -9,8 +9,8 @@ ghost use Rattle.lines.specs.Lines.{lentLine, endLine, Written};
 ghost use Rattle.exports.specs.Listings.{heard};
 
 // What a ReadOut's numbers tell, as far as a line speaks of it.
-fn hear(answer: u32, number: u8, value: i64) -> ShortAnswer
-    ensures { λ r. ⌜ r ≡ heard answer number value ⌝ }
+fn hear(answer: u32, number: u8, value: i64, has_bit: bool, bit: usize) -> ShortAnswer
+    ensures { λ r. ⌜ r ≡ heard answer number value «has_bit» bit ⌝ }
 {
     if answer == 0 {
         return ShortAnswer::Other(number);
@@ -21,11 +21,16 @@ fn hear(answer: u32, number: u8, value: i64) -> ShortAnswer
     if answer == 2 {
         return ShortAnswer::Prefix(no_prefix());
     }
-    ShortAnswer::Refused(Refusal { number, value })
+    ShortAnswer::Refused(Refusal {
+        number,
+        has_bit,
+        value,
+        bit,
+    })
 }
 
-// A unit's line: its place and length in the recording, its bytes, which only a prefix unit's line looks at, `answer`, `number` and `value` of its ReadOut, and
-// the words of a slice's fields.
+// A unit's line: its place and length in the recording, its bytes, which only a prefix unit's line looks at, `answer`, `number`,
+// `value`, `has_bit` and `bit` of its ReadOut, and the words of a slice's fields.
 #[no_mangle]
 pub extern "C" fn tuz_unit_line(
     line: &mut [u8; 128],
@@ -36,12 +41,14 @@ pub extern "C" fn tuz_unit_line(
     answer: u32,
     number: u8,
     value: i64,
+    has_bit: bool,
+    bit: usize,
     numbers: &[u32; 57],
     signed: &[i32; 7],
 ) -> usize
-    ensures { λ r. ⌜ Written (lentLine (now (pictures .entry)) place length (now (unit .entry)) (heard answer number value) (now (numbers .entry)) (now (signed .entry))) (now (line .entry)) r (now (line .exit)) ⌝ }
+    ensures { λ r. ⌜ Written (lentLine (now (pictures .entry)) place length (now (unit .entry)) (heard answer number value «has_bit» bit) (now (numbers .entry)) (now (signed .entry))) (now (line .entry)) r (now (line .exit)) ⌝ }
 {
-    let a = hear(answer, number, value);
+    let a = hear(answer, number, value, has_bit, bit);
     unit_line(line, pictures, place, length, unit, a, numbers, signed)
 }
 

@@ -1,9 +1,9 @@
 // Whole units.
 use bits::refusals::Refusal;
+use lists::list_words::PrefixShort;
 use unit::answer::no_prefix;
 use unit::into::ShortAnswer;
 use unit::into::read_unit_into;
-use lists::list_words::PrefixShort;
 ghost use mathlib.Core.Path.{_≡_};
 ghost use Rattle.header.specs.Lead.{tableOf};
 ghost use Rattle.unit.specs.Unit.{unitRead};
@@ -19,6 +19,9 @@ pub struct ReadOut {
     pub number: u32,
     // the refusal's value
     pub value: i64,
+    // where the refused field begins in the unescaped body, of a refusal that arises there
+    pub has_bit: bool,
+    pub bit: usize,
     // the slice header's length in bits
     pub bits: usize,
     // its list stands in words that the caller lends, as a slice's header does
@@ -33,6 +36,8 @@ pub(crate) fn tell(a: ShortAnswer) -> ReadOut
             answer: 1,
             number: 0,
             value: 0,
+            has_bit: false,
+            bit: 0,
             bits,
             prefix: no_prefix(),
         },
@@ -40,6 +45,8 @@ pub(crate) fn tell(a: ShortAnswer) -> ReadOut
             answer: 2,
             number: 0,
             value: 0,
+            has_bit: false,
+            bit: 0,
             bits: 0,
             prefix,
         },
@@ -47,6 +54,8 @@ pub(crate) fn tell(a: ShortAnswer) -> ReadOut
             answer: 0,
             number: id as u32,
             value: 0,
+            has_bit: false,
+            bit: 0,
             bits: 0,
             prefix: no_prefix(),
         },
@@ -54,6 +63,8 @@ pub(crate) fn tell(a: ShortAnswer) -> ReadOut
             answer: 3,
             number: why.number as u32,
             value: why.value,
+            has_bit: why.has_bit,
+            bit: why.bit,
             bits: 0,
             prefix: no_prefix(),
         },

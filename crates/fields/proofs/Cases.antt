@@ -8,7 +8,7 @@ use lib.Dec.{T, leb, ltb}
 use lib.IntN.{ℤ}
 use borrow.Author.Tests.{leb-true}
 use Rattle.bits.specs.declared.refusals.Refusal.{Refusal}
-use Rattle.bits.specs.Refusals.{Res, got, no, bind, refusal}
+use Rattle.bits.specs.Refusals.{Res, got, no, bind, refusalAt}
 use Rattle.bits.specs.Bits.{Bits, digits}
 use Rattle.bits.specs.Codes.{widthOf, fixedAt}
 use Rattle.bits.proofs.Results.{bind-bind, bind-got, under, chosen, cases}
@@ -84,7 +84,7 @@ module _ {A : Type 0} (ok : A → Bool) (n : ℕ) (value : A → ℤ) (F : Fmt A
   pub test-pass : {a : A} {e : ℕ} → m ≡ got a e → ok a ≡ true → got a e ≡ test ok n value F .read s at
   test-pass {a} {e} k t = sym (test-passes ok n value F s at a e (sym h ∙ k) t)
 
-  pub test-fail : {a : A} {e : ℕ} {r : Refusal} → m ≡ got a e → ok a ≡ false → r ≡ refusal n (value a) at → no r ≡ test ok n value F .read s at
+  pub test-fail : {a : A} {e : ℕ} {r : Refusal} → m ≡ got a e → ok a ≡ false → r ≡ refusalAt n (value a) at → no r ≡ test ok n value F .read s at
   test-fail {a} {e} k t q = rw q (sym (test-refuses ok n value F s at a e (sym h ∙ k) t))
 
 -- ---- what passed a test

@@ -7,7 +7,7 @@ use crate::step::SignedStep;
 use bits::read::Cursor;
 use bits::refusals::QP_RANGE;
 use bits::refusals::QS_RANGE;
-use bits::refusals::refuse;
+use bits::refusals::refuse_at;
 use syntax::context::Context;
 ghost use mathlib.Core.Path.{_≡_};
 ghost use Prim.Native.Nat.{_*_};
@@ -68,7 +68,7 @@ pub fn qp_delta(s: &[u8], c: Cursor, x: Context) -> SignedGiven
     if qp_fits(x, v.value) {
         SignedGiven::Got(v, next)
     } else {
-        SignedGiven::Refused(refuse(QP_RANGE, v.value as i64, c.at))
+        SignedGiven::Refused(refuse_at(QP_RANGE, v.value as i64, c.at))
     }
 }
 
@@ -82,7 +82,7 @@ fn qs_delta(s: &[u8], c: Cursor, x: Context) -> SignedGiven
     if qs_fits(x, v.value) {
         SignedGiven::Got(v, next)
     } else {
-        SignedGiven::Refused(refuse(QS_RANGE, v.value as i64, c.at))
+        SignedGiven::Refused(refuse_at(QS_RANGE, v.value as i64, c.at))
     }
 }
 

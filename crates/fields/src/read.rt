@@ -18,7 +18,7 @@ use bits::read::Read;
 use bits::read::ReadFlag;
 use bits::refusals::COLOUR_PLANE;
 use bits::refusals::SCALABLE;
-use bits::refusals::refuse;
+use bits::refusals::refuse_at;
 use syntax::context::Context;
 ghost use mathlib.Core.Bool.{false, not};
 ghost use mathlib.Core.Path.{_≡_};
@@ -47,7 +47,7 @@ pub fn tested(s: &[u8], c: Cursor, most: u32, number: u8) -> Read
     if v <= most {
         Read::Got(v, next)
     } else {
-        Read::Refused(refuse(number, v as i64, c.at))
+        Read::Refused(refuse_at(number, v as i64, c.at))
     }
 }
 
@@ -103,7 +103,7 @@ fn colour_plane(s: &[u8], c: Cursor) -> Read
         return a;
     };
     if v == 3 {
-        Read::Refused(refuse(COLOUR_PLANE, v as i64, c.at))
+        Read::Refused(refuse_at(COLOUR_PLANE, v as i64, c.at))
     } else {
         Read::Got(v, next)
     }
@@ -191,7 +191,7 @@ fn offset(s: &[u8], c: Cursor, number: u8) -> SignedGiven
     if offset_fits(v.value) {
         SignedGiven::Got(v, next)
     } else {
-        SignedGiven::Refused(refuse(number, v.value as i64, c.at))
+        SignedGiven::Refused(refuse_at(number, v.value as i64, c.at))
     }
 }
 
@@ -213,7 +213,7 @@ pub fn not_scalable(c: Cursor, x: Context) -> End
     ensures { λ r. ⌜ ((s : Bits) → asEnd r tt ≡ notScalable x .read s (c .at)) ⌝ }
 {
     if x.kind.svc {
-        End::Refused(refuse(SCALABLE, 0, c.at))
+        End::Refused(refuse_at(SCALABLE, 0, c.at))
     } else {
         End::At(c)
     }

@@ -1,6 +1,7 @@
 // Answers: a marked field and the moved cursor, or the refusal.
 use bits::read::Cursor;
 use bits::refusals::Refusal;
+use bits::refusals::no_refusal;
 use syntax::marks::MarkedFlag;
 use syntax::marks::MarkedNumber;
 use syntax::marks::MarkedSigned;
@@ -43,10 +44,7 @@ pub fn why_number(a: NumberStep) -> Refusal
     ensures { λ r. ⌜ r ≡ whyNumber a ⌝ }
 {
     match a {
-        NumberStep::Got(_, _) => Refusal {
-            number: 0,
-            value: 0,
-        },
+        NumberStep::Got(_, _) => no_refusal(),
         NumberStep::Refused(r) => r,
     }
 }
@@ -55,10 +53,7 @@ pub fn why_signed(a: SignedStep) -> Refusal
     ensures { λ r. ⌜ r ≡ whySigned a ⌝ }
 {
     match a {
-        SignedStep::Got(_, _) => Refusal {
-            number: 0,
-            value: 0,
-        },
+        SignedStep::Got(_, _) => no_refusal(),
         SignedStep::Refused(r) => r,
     }
 }
@@ -67,10 +62,7 @@ pub fn why_flag(a: FlagStep) -> Refusal
     ensures { λ r. ⌜ r ≡ whyFlag a ⌝ }
 {
     match a {
-        FlagStep::Got(_, _) => Refusal {
-            number: 0,
-            value: 0,
-        },
+        FlagStep::Got(_, _) => no_refusal(),
         FlagStep::Refused(r) => r,
     }
 }
@@ -79,10 +71,7 @@ pub fn why_given(a: SignedGiven) -> Refusal
     ensures { λ r. ⌜ r ≡ whyGiven a ⌝ }
 {
     match a {
-        SignedGiven::Got(_, _) => Refusal {
-            number: 0,
-            value: 0,
-        },
+        SignedGiven::Got(_, _) => no_refusal(),
         SignedGiven::Refused(r) => r,
     }
 }
@@ -91,10 +80,7 @@ pub fn why_end(a: End) -> Refusal
     ensures { λ r. ⌜ r ≡ whyEnd a ⌝ }
 {
     match a {
-        End::At(_) => Refusal {
-            number: 0,
-            value: 0,
-        },
+        End::At(_) => no_refusal(),
         End::Refused(r) => r,
     }
 }

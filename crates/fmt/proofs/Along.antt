@@ -6,7 +6,7 @@ use native.Mathlib.Omega.{arith}
 use lib.IntN.{pos}
 use lib.ListN.{length, set, replicate, length-append}
 use Rattle.bits.specs.declared.refusals.Refusal.{Refusal}
-use Rattle.bits.specs.Refusals.{got, no, refusal, listFull}
+use Rattle.bits.specs.Refusals.{got, no, refusalAt, listFull}
 use Rattle.bits.specs.Bits.{Bits}
 use Rattle.fmt.specs.Fmt.{Fmt}
 use Rattle.fmt.specs.Arrays.{pad}
@@ -42,7 +42,7 @@ module _ (C : Fmt ℕ) (close : ℕ) (G : ℕ → Fmt (ℕ × ℕ)) (cap : ℕ) 
     pub closed : (k e : ℕ) → C .read s at ≡ got k e → k ≡ close → whole C close G cap s from ≡ got (a .list) e
     closed = list-closed C close G cap s from (a .passed)
 
-    pub full : (k e : ℕ) → C .read s at ≡ got k e → (k ≡ close → ⊥) → cap ≤ n → whole C close G cap s from ≡ no (refusal listFull (pos 0) at)
+    pub full : (k e : ℕ) → C .read s at ≡ got k e → (k ≡ close → ⊥) → cap ≤ n → whole C close G cap s from ≡ no (refusalAt listFull (pos 0) at)
     full k e h z m = list-full C close G cap s from (a .passed) k e h z (omega (arith, a .count))
 
     module _ (k e : ℕ) (h : C .read s at ≡ got k e) (z : k ≡ close → ⊥) (m : n < cap) where

@@ -7,7 +7,7 @@ use native.Mathlib.Nat.{sub-zero}
 use lib.IntN.{pos}
 use lib.ListN.{length, length-append}
 use Rattle.bits.specs.declared.refusals.Refusal.{Refusal}
-use Rattle.bits.specs.Refusals.{Res, got, no, bind, refusal, listFull}
+use Rattle.bits.specs.Refusals.{Res, got, no, bind, refusalAt, listFull}
 use Rattle.bits.specs.Bits.{Bits}
 use Rattle.bits.proofs.Results.{bind-got}
 use Rattle.fmt.specs.Fmt.{Fmt, times, until}
@@ -39,7 +39,7 @@ module _ {A : Type 0} (C : Fmt ℕ) (close : ℕ) (G : ℕ → Fmt A) (cap : ℕ
     pub list-closed : (k e : ℕ) → C .read s at ≡ got k e → k ≡ close → whole ≡ got l e
     list-closed k e h z = p .rest ∙ rw (until-close C close G s at (cap - length l) k e h z) (ap (λ (m : List (ℕ × A)). got m e) (append-nil l))
 
-    pub list-full : (k e : ℕ) → C .read s at ≡ got k e → (k ≡ close → ⊥) → cap ≤ length l → whole ≡ no (refusal listFull (pos 0) at)
+    pub list-full : (k e : ℕ) → C .read s at ≡ got k e → (k ≡ close → ⊥) → cap ≤ length l → whole ≡ no (refusalAt listFull (pos 0) at)
     list-full k e h z m = p .rest ∙ rw (until-full C close G s at (cap - length l) k e (omega arith) h z)
 
     module _ (k e : ℕ) (h : C .read s at ≡ got k e) (z : k ≡ close → ⊥) (room : length l < cap) where

@@ -57,11 +57,11 @@ module _ (good : Bool) (l : Bits) (d : List ℕ) (at : ℕ) where
   written-good g h = rw (g, le-leb (at + length l) (length (bitsOf d)) h)
 
   written-short : good ≡ true → length (bitsOf d) < at + length l
-      → written good l d at ≡ record { answer = Refused (refusal bufferTooShort (pos (bytesFor (at + length l))) at); left = d }
+      → written good l d at ≡ record { answer = Refused (refusal bufferTooShort (pos (bytesFor (at + length l)))); left = d }
   unfolding written
   written-short g h = rw (g, lt-leb (at + length l) (length (bitsOf d)) h)
 
-  written-none : good ≡ false → written good l d at ≡ record { answer = Refused (refusal noBits (pos 0) at); left = d }
+  written-none : good ≡ false → written good l d at ≡ record { answer = Refused (refusal noBits (pos 0)); left = d }
   unfolding written
   written-none g = rw g
 

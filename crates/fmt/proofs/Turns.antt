@@ -6,7 +6,7 @@ use mathlib.Core.Bool.{Bool, true, false}
 use lib.IntN.{ℤ, pos}
 use borrow.Author.Tests.{ne-eqb}
 use Rattle.bits.specs.declared.refusals.Refusal.{Refusal}
-use Rattle.bits.specs.Refusals.{got, no, bind, refusal, listFull}
+use Rattle.bits.specs.Refusals.{got, no, bind, refusalAt, listFull}
 use Rattle.bits.specs.Bits.{Bits}
 use Rattle.fmt.specs.Fmt.{Fmt, test, times, until}
 use Rattle.fmt.proofs.Lawful.{eqb-self}
@@ -16,7 +16,7 @@ module _ {A : Type 0} (ok : A → Bool) (n : ℕ) (value : A → ℤ) (F : Fmt A
   unfolding test
   test-passes k = rw (h, k)
 
-  pub test-refuses : ok a ≡ false → test ok n value F .read s at ≡ no (refusal n (value a) at)
+  pub test-refuses : ok a ≡ false → test ok n value F .read s at ≡ no (refusalAt n (value a) at)
   unfolding test
   test-refuses k = rw (h, k)
 
@@ -31,7 +31,7 @@ module _ {A : Type 0} (C : Fmt ℕ) (close : ℕ) (G : ℕ → Fmt A) (s : Bits)
   until-close zero c e h k = rw (h, k, eqb-self close)
   until-close (suc n) c e h k = rw (h, k, eqb-self close)
 
-  pub until-full : (n c e : ℕ) → n ≡ 0 → C .read s at ≡ got c e → (c ≡ close → ⊥) → until C close G n .read s at ≡ no (refusal listFull (pos 0) at)
+  pub until-full : (n c e : ℕ) → n ≡ 0 → C .read s at ≡ got c e → (c ≡ close → ⊥) → until C close G n .read s at ≡ no (refusalAt listFull (pos 0) at)
   unfolding until
   until-full n c e z h k = rw (z, h, ne-eqb c close k)
 

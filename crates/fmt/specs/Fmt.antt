@@ -4,7 +4,7 @@ use mathlib.Core.List.{List, [], _∷_, _++_}
 use mathlib.Core.Bool.{Bool, true, false, not, _&&_}
 use lib.Dec.{eqb}
 use lib.IntN.{ℤ, pos}
-use Rattle.bits.specs.Refusals.{Res, got, no, bind, pick, refusal, listFull}
+use Rattle.bits.specs.Refusals.{Res, got, no, bind, pick, refusalAt, listFull}
 use Rattle.bits.specs.Bits.{Bits}
 
 pub record Fmt (A : Type 0) : Type 0 where
@@ -38,7 +38,7 @@ shaped to from ok F =
 unfoldable pub test : {A : Type 0} → (A → Bool) → ℕ → (A → ℤ) → Fmt A → Fmt A
 test ok n value F =
     record {
-      read = λ s at. bind (F .read s at) (λ a e. pick (ok a) (got a e) (no (refusal n (value a) at)));
+      read = λ s at. bind (F .read s at) (λ a e. pick (ok a) (got a e) (no (refusalAt n (value a) at)));
       bits = F .bits;
       good = λ a. ok a && F .good a;
     }
@@ -77,7 +77,7 @@ times (suc n) F =
 unfoldable pub until : {A : Type 0} → Fmt ℕ → ℕ → (ℕ → Fmt A) → ℕ → Fmt (List (ℕ × A))
 until C close G zero =
     record {
-      read = λ s at. bind (C .read s at) (λ c e. pick (eqb c close) (got [] e) (no (refusal listFull (pos 0) at)));
+      read = λ s at. bind (C .read s at) (λ c e. pick (eqb c close) (got [] e) (no (refusalAt listFull (pos 0) at)));
       bits = λ l. C .bits close;
       good = elim [ [] ↦ C .good close | (x ∷ l) ↦ false ];
     }

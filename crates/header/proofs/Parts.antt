@@ -7,7 +7,7 @@ use lib.IntN.{ℤ, pos}
 use lib.ListN.{drop}
 use lib.Seq.{sets}
 use Rattle.bits.specs.declared.refusals.Refusal.{Refusal}
-use Rattle.bits.specs.Refusals.{Res, got, no, bind, pick, refusal}
+use Rattle.bits.specs.Refusals.{Res, got, no, bind, pick, refusalAt}
 use Rattle.bits.specs.Bits.{Bits}
 use Rattle.bits.proofs.Results.{bind-bind}
 use Rattle.fmt.specs.Fmt.{seq, shaped}
@@ -82,7 +82,7 @@ module _ (n : UnitKind) (l : Led) (f : FrontParts) (s : Bits) (c1 : ℕ) where
         back-no z = rw (hm, hw, hd, z)
 
         module _ {b : BackParts} {e : ℕ} (hb : backAt (contextOf n l) (l .«slice_type») s c4 ≡ got b e) where
-          pub follows-no : anySet (drop (e + 1) s) ≡ false → behind n l f s c1 ≡ no (refusal 22 (pos 0) e)
+          pub follows-no : anySet (drop (e + 1) s) ≡ false → behind n l f s c1 ≡ no (refusalAt 22 (pos 0) e)
           follows-no z = rw (hm, hw, hd, hb, z)
 
           pub whole-read : anySet (drop (e + 1) s) ≡ true → behind n l f s c1 ≡ got (headerOf l f m w d b) e

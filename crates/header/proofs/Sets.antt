@@ -4,7 +4,7 @@ use mathlib.Core.Path.{_≡_, refl, sym, ap, _∙_}
 use lib.Dec.{leb}
 use lib.IntN.{pos}
 use Rattle.bits.specs.declared.refusals.Refusal.{Refusal}
-use Rattle.bits.specs.Refusals.{got, no, refusal}
+use Rattle.bits.specs.Refusals.{got, no, refusalAt}
 use Rattle.bits.specs.Bits.{Bits}
 use Rattle.fmt.specs.Fmt.{Fmt, test}
 use Rattle.fmt.specs.Leaves.{ue}
@@ -31,7 +31,7 @@ module _ (t : Table) (s : Bits) (at : ℕ) where
       sym (test-none (λ id. isThereToo (sequenceAt t (sequenceIdFor t id))) 10 (λ id. pos (sequenceIdFor t id)) _ s at inner h) ∙ h
 
   module _ {id e : ℕ} (h : setId .read s at ≡ got id e) where
-    pub no-picture : pictureAt t id ≡ FoundPicture.Absent → pictureSetId t .read s at ≡ no (refusal 9 (pos id) at)
+    pub no-picture : pictureAt t id ≡ FoundPicture.Absent → pictureSetId t .read s at ≡ no (refusalAt 9 (pos id) at)
     unfolding pictureSetId
     no-picture k =
         let inner = test-refuses (λ id. isThere (pictureAt t id)) 9 pos setId s at id e h (ap isThere k) in
@@ -46,13 +46,13 @@ module _ (t : Table) (s : Bits) (at : ℕ) where
       unfolding sequenceIdFor
       sequence-id = ap (λ (x : Picture). x .«seq_parameter_set_id») picture-is
 
-      pub no-sequence : sequenceAt t (p .«seq_parameter_set_id») ≡ FoundSequence.Absent → pictureSetId t .read s at ≡ no (refusal 10 (pos (p .«seq_parameter_set_id»)) at)
+      pub no-sequence : sequenceAt t (p .«seq_parameter_set_id») ≡ FoundSequence.Absent → pictureSetId t .read s at ≡ no (refusalAt 10 (pos (p .«seq_parameter_set_id»)) at)
       unfolding pictureSetId
       no-sequence q =
           let inner = test-passes (λ id. isThere (pictureAt t id)) 9 pos setId s at id e h (ap isThere k) in
           let found : sequenceAt t (sequenceIdFor t id) ≡ FoundSequence.Absent = rw sequence-id q in
           test-refuses (λ id. isThereToo (sequenceAt t (sequenceIdFor t id))) 10 (λ id. pos (sequenceIdFor t id)) _ s at id e inner (ap isThereToo found)
-          ∙ ap (λ (x : ℕ). no (refusal 10 (pos x) at)) sequence-id
+          ∙ ap (λ (x : ℕ). no (refusalAt 10 (pos x) at)) sequence-id
 
       module _ {q : Sequence} (g : sequenceAt t (p .«seq_parameter_set_id») ≡ FoundSequence.There q) where
         found : sequenceAt t (sequenceIdFor t id) ≡ FoundSequence.There q

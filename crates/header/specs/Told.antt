@@ -7,7 +7,7 @@ use lib.ListN.{drop}
 use lib.Seq.{sets}
 use Rattle.bits.specs.declared.refusals.Refusal.{Refusal}
 use Rattle.bits.specs.Bits.{Bits}
-use Rattle.bits.specs.Refusals.{Res, got, no, bind, pick, refusal}
+use Rattle.bits.specs.Refusals.{Res, got, no, bind, pick, refusalAt}
 use Rattle.bits.specs.Answers.{none}
 use Rattle.syntax.specs.declared.context.UnitKind.{UnitKind}
 use Rattle.syntax.specs.declared.record.Modifications.{Modifications}
@@ -65,7 +65,7 @@ behindFront n l f i j s c =
     bind (predWeightTable (contextOf n l) (l .«slice_type») i j .read s c2) (λ w c3.
     bind (decRefPicMarking (contextOf n l) .read s c3) (λ d c4.
     bind (backAt (contextOf n l) (l .«slice_type») s c4) (λ b e.
-    pick (anySet (drop (e + 1) s)) (got (headerOf l f m w d b) e) (no (refusal 22 (pos 0) e))))))
+    pick (anySet (drop (e + 1) s)) (got (headerOf l f m w d b) e) (no (refusalAt 22 (pos 0) e))))))
 
 -- with as many as the code has: at most 32
 abbrev pub behind : UnitKind → Led → FrontParts → Bits → ℕ → Res SliceHeader

@@ -7,7 +7,8 @@ use bits::refusals::NO_SEQUENCE_SET;
 use bits::refusals::PICTURE_SET_ID;
 use bits::refusals::Refusal;
 use bits::refusals::SLICE_TYPE;
-use bits::refusals::refuse;
+use bits::refusals::no_refusal;
+use bits::refusals::refuse_at;
 use fields::read::tested;
 use table::sets::Picture;
 use table::sets::Sequence;
@@ -41,10 +42,7 @@ pub fn why_lead(a: LeadStep) -> Refusal
     ensures { λ r. ⌜ r ≡ whyLead a ⌝ }
 {
     match a {
-        LeadStep::Got(_, _) => Refusal {
-            number: 0,
-            value: 0,
-        },
+        LeadStep::Got(_, _) => no_refusal(),
         LeadStep::Refused(r) => r,
     }
 }
@@ -71,11 +69,11 @@ pub fn lead<'a>(
     };
     let a4 = picture_in(pictures, id);
     let FoundPicture::There(picture) = a4 else {
-        return LeadStep::Refused(refuse(NO_PICTURE_SET, id as i64, c2.at));
+        return LeadStep::Refused(refuse_at(NO_PICTURE_SET, id as i64, c2.at));
     };
     let a5 = sequence_in(sequences, picture.seq_parameter_set_id);
     let FoundSequence::There(sequence) = a5 else {
-        return LeadStep::Refused(refuse(
+        return LeadStep::Refused(refuse_at(
             NO_SEQUENCE_SET,
             picture.seq_parameter_set_id as i64,
             c2.at,

@@ -1,21 +1,5 @@
 // The header read into lent words: its fields in two arrays, one of numbers and flags and one of signed numbers, and each list in an array of its own. A record
 // handed back by value would be copied by every function on its way.
-use crate::fields::MARKINGS;
-use crate::fields::MODIFICATIONS_L0;
-use crate::fields::MODIFICATIONS_L1;
-use crate::fields::WEIGHTS_L0;
-use crate::fields::WEIGHTS_L1;
-use crate::fields::lay;
-use bits::read::Cursor;
-use bits::refusals::NOTHING_FOLLOWS;
-use bits::refusals::Refusal;
-use bits::refusals::refuse;
-use fields::conditions::B;
-use fields::conditions::is_type;
-use fields::read::flag_if;
-use fields::step::End;
-use fields::step::FlagStep;
-use fields::step::why_flag;
 use crate::follows::any_set_after;
 use crate::lead::LeadStep;
 use crate::lead::Led;
@@ -34,6 +18,28 @@ use crate::stages::marking_flags;
 use crate::stages::why_back;
 use crate::stages::why_front;
 use crate::stages::why_marking;
+use crate::words::MARKINGS;
+use crate::words::MODIFICATIONS_L0;
+use crate::words::MODIFICATIONS_L1;
+use crate::words::WEIGHTS_L0;
+use crate::words::WEIGHTS_L1;
+use crate::words::lay;
+use bits::read::Cursor;
+use bits::refusals::NOTHING_FOLLOWS;
+use bits::refusals::Refusal;
+use bits::refusals::no_refusal;
+use bits::refusals::refuse_at;
+use fields::conditions::B;
+use fields::conditions::is_type;
+use fields::read::flag_if;
+use fields::step::End;
+use fields::step::FlagStep;
+use fields::step::why_flag;
+use lists::list_words::ListStep;
+use lists::list_words::clear_list;
+use lists::list_words::empty_list;
+use lists::list_words::operations_into;
+use lists::list_words::why_list;
 use lists::marking::marking_kind;
 use lists::modification::modification_kind;
 use syntax::context::Context;
@@ -44,11 +50,6 @@ use syntax::record::Filter;
 use syntax::record::Frame;
 use syntax::record::OrderCount;
 use syntax::record::Quantiser;
-use lists::list_words::ListStep;
-use lists::list_words::clear_list;
-use lists::list_words::empty_list;
-use lists::list_words::operations_into;
-use lists::list_words::why_list;
 use weights::weight_words::WeightsShort;
 use weights::weight_words::WeightsStep;
 use weights::weight_words::clear_weights;
@@ -117,10 +118,7 @@ fn why_lists(a: ListsStep) -> Refusal
     ensures { λ r. ⌜ r ≡ whyLists a ⌝ }
 {
     match a {
-        ListsStep::Got(_, _) => Refusal {
-            number: 0,
-            value: 0,
-        },
+        ListsStep::Got(_, _) => no_refusal(),
         ListsStep::Refused(r) => r,
     }
 }
@@ -129,10 +127,7 @@ fn why_marks(a: MarksStep) -> Refusal
     ensures { λ r. ⌜ r ≡ whyMarks a ⌝ }
 {
     match a {
-        MarksStep::Got(_, _) => Refusal {
-            number: 0,
-            value: 0,
-        },
+        MarksStep::Got(_, _) => no_refusal(),
         MarksStep::Refused(r) => r,
     }
 }
@@ -258,7 +253,7 @@ fn behind(
         return End::Refused(why_back(a6));
     };
     if !any_set_after(s, c6.at) {
-        return End::Refused(refuse(NOTHING_FOLLOWS, 0, c6.at));
+        return End::Refused(refuse_at(NOTHING_FOLLOWS, 0, c6.at));
     }
     let frame = f.frame;
     let order_count = f.order_count;

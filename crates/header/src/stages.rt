@@ -1,6 +1,7 @@
 // The parts after pic_parameter_set_id, in stages, but for those with lists. None of them hands on an array.
 use bits::read::Cursor;
 use bits::refusals::Refusal;
+use bits::refusals::no_refusal;
 use fields::conditions::both;
 use fields::conditions::has_l0;
 use fields::read::flag_if;
@@ -9,21 +10,21 @@ use fields::step::End;
 use fields::step::FlagStep;
 use fields::step::why_end;
 use fields::step::why_flag;
-use parts::filter::FilterStep;
-use parts::filter::filter;
-use parts::filter::why_filter;
-use parts::quantiser::QuantiserStep;
-use parts::quantiser::quantiser;
-use parts::quantiser::why_quantiser;
 use parts::counts::ActiveCountsStep;
 use parts::counts::active_counts;
 use parts::counts::why_active_counts;
+use parts::filter::FilterStep;
+use parts::filter::filter;
+use parts::filter::why_filter;
 use parts::frame::FrameStep;
 use parts::frame::frame;
 use parts::frame::why_frame;
 use parts::order::OrderCountStep;
 use parts::order::order_count;
 use parts::order::why_order_count;
+use parts::quantiser::QuantiserStep;
+use parts::quantiser::quantiser;
+use parts::quantiser::why_quantiser;
 use syntax::context::Context;
 use syntax::marks::MarkedFlag;
 use syntax::marks::MarkedNumber;
@@ -82,10 +83,7 @@ pub fn why_front(a: FrontStep) -> Refusal
     ensures { λ r. ⌜ r ≡ whyFront a ⌝ }
 {
     match a {
-        FrontStep::Got(_, _) => Refusal {
-            number: 0,
-            value: 0,
-        },
+        FrontStep::Got(_, _) => no_refusal(),
         FrontStep::Refused(r) => r,
     }
 }
@@ -94,10 +92,7 @@ pub fn why_marking(a: MarkingStep) -> Refusal
     ensures { λ r. ⌜ r ≡ whyMarking a ⌝ }
 {
     match a {
-        MarkingStep::Got(_, _) => Refusal {
-            number: 0,
-            value: 0,
-        },
+        MarkingStep::Got(_, _) => no_refusal(),
         MarkingStep::Refused(r) => r,
     }
 }
@@ -106,10 +101,7 @@ pub fn why_back(a: BackStep) -> Refusal
     ensures { λ r. ⌜ r ≡ whyBack a ⌝ }
 {
     match a {
-        BackStep::Got(_, _) => Refusal {
-            number: 0,
-            value: 0,
-        },
+        BackStep::Got(_, _) => no_refusal(),
         BackStep::Refused(r) => r,
     }
 }

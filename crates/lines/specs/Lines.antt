@@ -1,7 +1,7 @@
 -- The lines of a listing (docs/RULES.md, 'A listing, whole').
 use Prim.Native.Nat.{ℕ, _≤_}
 use mathlib.Core.Path.{_≡_}
-use mathlib.Core.List.{List, _++_}
+use mathlib.Core.List.{List, [], _++_}
 use mathlib.Core.Bool.{Bool, true, false}
 use lib.IntN.{ℤ, pos}
 use lib.ListN.{length, getD}
@@ -38,8 +38,12 @@ prefixText svc = pick svc (words " prefix ext=svc") (words " prefix ext=mvc")
 abbrev pub otherText : ℕ → List ℕ
 otherText id = field " other type=" id
 
+-- where the refused field begins, if the refusal has a place
+abbrev pub bitText : Bool → ℕ → List ℕ
+bitText has-bit bit = pick has-bit (field " bit=" bit) []
+
 abbrev pub refusedText : Refusal → List ℕ
-refusedText r = field " refused " (r .number) ++ words " value=" ++ signed (r .value)
+refusedText r = field " refused " (r .number) ++ words " value=" ++ signed (r .value) ++ bitText (r .«has_bit») (r .bit)
 
 abbrev pub textOf : List ℕ → List ℕ → SliceHeader → UnitAnswer → List ℕ
 textOf pictures unit h (UnitAnswer.Slice bits) =

@@ -11,7 +11,7 @@ use unit::into::ShortAnswer;
 ghost use mathlib.Core.Path.{_≡_};
 ghost use Prim.Native.Nat.{_≤_};
 ghost use Rattle.lines.specs.Text.{Put};
-ghost use Rattle.lines.specs.Lines.{isSvc, sliceText, prefixText, refusedText, lentText, lentLine, endLine, tooLongLine, Written};
+ghost use Rattle.lines.specs.Lines.{isSvc, sliceText, prefixText, bitText, refusedText, lentText, lentLine, endLine, tooLongLine, Written};
 
 // Whether a unit's extension is SVC's.
 fn is_svc(unit: &[u8]) -> bool
@@ -46,6 +46,17 @@ fn prefix_words(d: &mut [u8; 128], at: usize, svc: bool) -> usize
     words(d, at, b" prefix ext=mvc")
 }
 
+fn bit_words(d: &mut [u8; 128], at: usize, has_bit: bool, bit: usize) -> usize
+    requires { ⌜ at ≤ 98 ⌝ }
+    ensures { λ r. ⌜ Put (now (d .entry)) at (bitText «has_bit» bit) r (now (d .exit)) × (r ≤ 127) ⌝ }
+{
+    if has_bit {
+        return field(d, at, b" bit=", bit as u64);
+    }
+    at
+}
+
+// The longest of the lines: 9 bytes and 3 digits, 7 bytes, a sign and 19 digits, 5 bytes and 20 digits end at byte 123.
 fn refused_words(d: &mut [u8; 128], at: usize, r: Refusal) -> usize
     requires { ⌜ at ≤ 59 ⌝ }
     ensures { λ e. ⌜ Put (now (d .entry)) at (refusedText r) e (now (d .exit)) × (e ≤ 127) ⌝ }
@@ -53,7 +64,8 @@ fn refused_words(d: &mut [u8; 128], at: usize, r: Refusal) -> usize
     let a = field(d, at, b" refused ", r.number as u64);
     let b = words(d, a, b" value=");
     let v = r.value;
-    signed_number(d, b, v)
+    let c = signed_number(d, b, v);
+    bit_words(d, c, r.has_bit, r.bit)
 }
 
 // What reading a unit answers; a slice's header stands in the words.

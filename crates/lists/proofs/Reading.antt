@@ -11,7 +11,7 @@ use Rattle.bits.specs.declared.read.Read.{Read}
 use Rattle.bits.specs.declared.refusals.Refusal.{Refusal}
 use Rattle.bits.specs.Answers.{asRead, whyRead}
 use Rattle.bits.specs.Bits.{Bits}
-use Rattle.bits.specs.Refusals.{Res, got, no, refusal}
+use Rattle.bits.specs.Refusals.{Res, got, no, refusalAt}
 use Rattle.fmt.specs.Fmt.{seq, shaped, test, until}
 use Rattle.fmt.specs.Leaves.{ue}
 use Rattle.fmt.proofs.Along.{Along, begin, refused-code, closed, full, refused-operand, next}
@@ -73,7 +73,7 @@ module _ (kind : ListKind) (s : Bits) (from : ℕ) where
           ∙ sym (rw (closed (code format) (kind .closing) (operands format) entries s from a v (c .at) coded z))
 
       module _ (z : v ≡ kind .closing → ⊥) where
-        pub too-many : 66 ≤ n → (r : Refusal) → r ≡ refusal 14 (pos 0) at → no r ≡ found
+        pub too-many : 66 ≤ n → (r : Refusal) → r ≡ refusalAt 14 (pos 0) at → no r ≡ found
         too-many m r e = ap (λ (q : Refusal). no q) e ∙ passed-on _ (full (code format) (kind .closing) (operands format) entries s from a v (c .at) coded z m)
 
         module _ (m : n < 66) (b : Bool) (f : b ≡ format .hasFirst v) (y : Read) (g : asRead y ≡ given b 0 isZero ue .read s (c .at)) where

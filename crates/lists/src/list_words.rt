@@ -1,19 +1,20 @@
 // A list read into words that the caller lends: three words an entry, its code and its two operands. No list is copied, and words behind the last entry stay as they were: `empty_list` makes them zeros.
+use crate::operations::ListKind;
+use crate::operations::has_first;
+use crate::operations::has_second;
 use bits::read::Cursor;
 use bits::read::Read;
 use bits::read::why;
 use bits::refusals::BASE_MARKING_OPERATION;
 use bits::refusals::LIST_FULL;
 use bits::refusals::Refusal;
-use bits::refusals::refuse;
+use bits::refusals::no_refusal;
+use bits::refusals::refuse_at;
 use fields::read::flag_if;
 use fields::read::given;
 use fields::read::tested;
 use fields::step::FlagStep;
 use fields::step::why_flag;
-use crate::operations::ListKind;
-use crate::operations::has_first;
-use crate::operations::has_second;
 use syntax::marks::MarkedFlag;
 ghost use mathlib.Core.Path.{_≡_};
 ghost use lib.ListN.{replicate};
@@ -34,10 +35,7 @@ pub fn why_list(a: ListStep) -> Refusal
     ensures { λ r. ⌜ r ≡ whyList a ⌝ }
 {
     match a {
-        ListStep::Got(_, _) => Refusal {
-            number: 0,
-            value: 0,
-        },
+        ListStep::Got(_, _) => no_refusal(),
         ListStep::Refused(r) => r,
     }
 }
@@ -89,7 +87,7 @@ fn fill(s: &[u8], c: Cursor, kind: ListKind, words: &mut [u32; 198]) -> ListStep
             break Filled { count, at: c1 };
         }
         if 66 <= count {
-            return ListStep::Refused(refuse(LIST_FULL, 0, at.at));
+            return ListStep::Refused(refuse_at(LIST_FULL, 0, at.at));
         }
         let b = given(s, c1, has_first(kind, code));
         let Read::Got(x, c2) = b else {

@@ -28,7 +28,7 @@ unfolding nalUnitType
 unit-type h = ap typeOf (field-digits 3 5 8 (h .0) (lit≤ tt) ∙ omega arith)
 
 -- a byte with its top bit set, and one with it clear
-pub top-set : (b : ℕ) → 127 < b → b < 256 → headerFrom b ≡ NalHeaderRead.Refused (refusal forbiddenZeroBit (pos 0) 0)
+pub top-set : (b : ℕ) → 127 < b → b < 256 → headerFrom b ≡ NalHeaderRead.Refused (refusal forbiddenZeroBit (pos 0))
 unfolding headerFrom
 top-set b h l = rw (ne-eqb (forbiddenZeroBitOf b) 0 (λ e. omega (arith, top-bit b)))
 
@@ -36,7 +36,7 @@ pub top-clear : (b : ℕ) → b < 128 → headerFrom b ≡ NalHeaderRead.Got (re
 unfolding headerFrom
 top-clear b h = rw (eq-eqb (forbiddenZeroBitOf b) 0 (omega (arith, top-bit b)))
 
-pub no-byte : (s : List ℕ) → length s ≡ 0 → headerOf s ≡ NalHeaderRead.Refused (refusal noByte (pos 0) 0)
+pub no-byte : (s : List ℕ) → length s ≡ 0 → headerOf s ≡ NalHeaderRead.Refused (refusal noByte (pos 0))
 unfolding headerOf
 no-byte [] e = refl
 no-byte (b ∷ s) e = absurd (omega arith)

@@ -44,7 +44,7 @@ module _ (b1 b2 b3 : ℕ) (h2 : b2 < 256) (h3 : b3 < 256) where
   unfolding extensionFrom
   is-mvc h = rw (ne-eqb (field 0 1 (threeBytes b1 b2 b3)) 1 (λ e. omega (arith, three-field 0 1 (lit≤ tt))))
 
-pub no-extension : (s : List ℕ) → length s < 4 → extensionOf s ≡ ExtensionRead.Refused (refusal noExtension (pos 0) 0)
+pub no-extension : (s : List ℕ) → length s < 4 → extensionOf s ≡ ExtensionRead.Refused (refusal noExtension (pos 0))
 unfolding extensionOf
 no-extension s h = rw (lt-leb 4 (length s) h)
 

@@ -32,7 +32,7 @@ unfoldable pub extensionOf : List ℕ → ExtensionRead
 extensionOf unit =
     pick (leb 4 (length unit))
     (ExtensionRead.Got (extensionFrom (getD unit 1 0) (getD unit 2 0) (getD unit 3 0)))
-    (ExtensionRead.Refused (refusal noExtension (pos 0) 0))
+    (ExtensionRead.Refused (refusal noExtension (pos 0)))
 
 -- ---- nal_unit_header_mvc_extension( ), H.7.3.1.1 (G.7.3.1.1 in newer editions); bit 23 is reserved_one_bit
 

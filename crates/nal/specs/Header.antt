@@ -22,9 +22,9 @@ nalUnitType h = typeOf (field 3 5 (digits 8 (h .0)))
 -- a first byte, or refusal 2
 unfoldable pub headerFrom : ℕ → NalHeaderRead
 headerFrom b =
-    pick (eqb (forbiddenZeroBitOf b) 0) (NalHeaderRead.Got (record { 0 = b })) (NalHeaderRead.Refused (refusal forbiddenZeroBit (pos 0) 0))
+    pick (eqb (forbiddenZeroBitOf b) 0) (NalHeaderRead.Got (record { 0 = b })) (NalHeaderRead.Refused (refusal forbiddenZeroBit (pos 0)))
 
 -- a unit's first byte; refusal 1 where it has none
 unfoldable pub headerOf : List ℕ → NalHeaderRead
-headerOf [] = NalHeaderRead.Refused (refusal noByte (pos 0) 0)
+headerOf [] = NalHeaderRead.Refused (refusal noByte (pos 0))
 headerOf (b ∷ s) = headerFrom b

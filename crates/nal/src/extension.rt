@@ -144,7 +144,7 @@ pub fn extension_of(unit: &[u8]) -> ExtensionRead
     ensures { λ r. ⌜ r ≡ extensionOf (now (unit .entry)) ⌝ }
 {
     if unit.len() < 4 {
-        return ExtensionRead::Refused(refuse(NO_EXTENSION, 0, 0));
+        return ExtensionRead::Refused(refuse(NO_EXTENSION, 0));
     }
     ExtensionRead::Got(NalHeaderExtension::from_bytes(unit[1], unit[2], unit[3]))
 }

@@ -21,7 +21,7 @@ impl NalHeader {
         ensures { λ r. ⌜ r ≡ headerFrom «header_value» ⌝ }
     {
         if 127 < header_value {
-            return NalHeaderRead::Refused(refuse(FORBIDDEN_ZERO_BIT, 0, 0));
+            return NalHeaderRead::Refused(refuse(FORBIDDEN_ZERO_BIT, 0));
         }
         NalHeaderRead::Got(NalHeader(header_value))
     }
@@ -51,7 +51,7 @@ pub fn header_of(unit: &[u8]) -> NalHeaderRead
     ensures { λ r. ⌜ r ≡ headerOf (now (unit .entry)) ⌝ }
 {
     if unit.len() == 0 {
-        return NalHeaderRead::Refused(refuse(NO_BYTE, 0, 0));
+        return NalHeaderRead::Refused(refuse(NO_BYTE, 0));
     }
     NalHeader::new(unit[0])
 }

@@ -2,6 +2,7 @@
 use bits::read::Cursor;
 use bits::refusals::ACTIVE_COUNT;
 use bits::refusals::Refusal;
+use bits::refusals::no_refusal;
 use fields::conditions::B;
 use fields::conditions::both;
 use fields::conditions::has_l0;
@@ -31,10 +32,7 @@ pub fn why_active_counts(a: ActiveCountsStep) -> Refusal
     ensures { λ r. ⌜ r ≡ whyActiveCounts a ⌝ }
 {
     match a {
-        ActiveCountsStep::Got(_, _) => Refusal {
-            number: 0,
-            value: 0,
-        },
+        ActiveCountsStep::Got(_, _) => no_refusal(),
         ActiveCountsStep::Refused(r) => r,
     }
 }

@@ -4,6 +4,7 @@ use bits::refusals::ALPHA_OFFSET;
 use bits::refusals::BETA_OFFSET;
 use bits::refusals::DEBLOCKING_IDC;
 use bits::refusals::Refusal;
+use bits::refusals::no_refusal;
 use bits::width::change_cycle_width;
 use fields::conditions::both;
 use fields::read::bits_if;
@@ -30,10 +31,7 @@ pub fn why_filter(a: FilterStep) -> Refusal
     ensures { λ r. ⌜ r ≡ whyFilter a ⌝ }
 {
     match a {
-        FilterStep::Got(_, _) => Refusal {
-            number: 0,
-            value: 0,
-        },
+        FilterStep::Got(_, _) => no_refusal(),
         FilterStep::Refused(r) => r,
     }
 }

@@ -3,6 +3,7 @@ use bits::read::Cursor;
 use bits::read::Read;
 use bits::read::why;
 use bits::refusals::Refusal;
+use bits::refusals::no_refusal;
 use fields::read::colour_plane_if;
 use fields::read::flag_if;
 use fields::read::number_if;
@@ -27,10 +28,7 @@ pub fn why_frame(a: FrameStep) -> Refusal
     ensures { λ r. ⌜ r ≡ whyFrame a ⌝ }
 {
     match a {
-        FrameStep::Got(_, _) => Refusal {
-            number: 0,
-            value: 0,
-        },
+        FrameStep::Got(_, _) => no_refusal(),
         FrameStep::Refused(r) => r,
     }
 }

@@ -1,6 +1,7 @@
 // pic_order_cnt_lsb to redundant_pic_cnt. `field` is field_pic_flag.
 use bits::read::Cursor;
 use bits::refusals::Refusal;
+use bits::refusals::no_refusal;
 use fields::conditions::both;
 use fields::read::given_signed;
 use fields::read::lsb_if;
@@ -36,10 +37,7 @@ pub fn why_order_count(a: OrderCountStep) -> Refusal
     ensures { λ r. ⌜ r ≡ whyOrderCount a ⌝ }
 {
     match a {
-        OrderCountStep::Got(_, _) => Refusal {
-            number: 0,
-            value: 0,
-        },
+        OrderCountStep::Got(_, _) => no_refusal(),
         OrderCountStep::Refused(r) => r,
     }
 }
@@ -48,10 +46,7 @@ fn why_deltas(a: DeltasStep) -> Refusal
     ensures { λ r. ⌜ r ≡ whyDeltas a ⌝ }
 {
     match a {
-        DeltasStep::Got(_, _) => Refusal {
-            number: 0,
-            value: 0,
-        },
+        DeltasStep::Got(_, _) => no_refusal(),
         DeltasStep::Refused(r) => r,
     }
 }

@@ -1,16 +1,17 @@
 // cabac_init_idc to slice_qs_delta.
 use bits::read::Cursor;
 use bits::refusals::Refusal;
+use bits::refusals::no_refusal;
 use fields::conditions::I;
 use fields::conditions::SI;
 use fields::conditions::SP;
 use fields::conditions::both;
 use fields::conditions::either;
 use fields::conditions::is_type;
-use fields::read::flag_if;
-use fields::read::number_if;
 use fields::quant::qp_delta;
 use fields::quant::qs_delta_if;
+use fields::read::flag_if;
+use fields::read::number_if;
 use fields::step::FlagStep;
 use fields::step::NumberStep;
 use fields::step::SignedGiven;
@@ -38,10 +39,7 @@ pub fn why_quantiser(a: QuantiserStep) -> Refusal
     ensures { λ r. ⌜ r ≡ whyQuantiser a ⌝ }
 {
     match a {
-        QuantiserStep::Got(_, _) => Refusal {
-            number: 0,
-            value: 0,
-        },
+        QuantiserStep::Got(_, _) => no_refusal(),
         QuantiserStep::Refused(r) => r,
     }
 }

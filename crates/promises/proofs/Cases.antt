@@ -32,17 +32,17 @@ use Rattle.walk.specs.declared.search.Found.{Found}
 use Rattle.walk.specs.declared.walk.Step.{Step}
 use Rattle.walk.specs.Walk.{nextUnit}
 use Rattle.walk.specs.Walked.{nothing, afterSearch, walked}
-use Rattle.promises.specs.Demands.{oneOf, readNumbers, bodyLeft, leftBy, scratchAfter}
-use Rattle.promises.proofs.Numbers.{Known, header-known, prefix-known}
+use Rattle.promises.specs.Demands.{bodyLeft, leftBy, scratchAfter}
+use Rattle.promises.proofs.Numbers.{Placed, Known, header-known, prefix-known}
 
 -- ---- what is read
 
--- a refusal has one of the numbers, and stands by itself
+-- a refusal has one of the numbers, a place where it arises in a body, and stands by itself
 abbrev pub Alone : UnitRead → UnitAnswer → Type 0
 Alone x (UnitAnswer.Slice n) = Unit {0}
 Alone x UnitAnswer.«Prefix» = Unit {0}
 Alone x (UnitAnswer.Other id) = Unit {0}
-Alone x (UnitAnswer.Refused r) = (x ≡ only (UnitAnswer.Refused r)) × T (oneOf readNumbers (r .number))
+Alone x (UnitAnswer.Refused r) = (x ≡ only (UnitAnswer.Refused r)) × Placed (r .«has_bit») (r .number)
 
 abbrev Fine : UnitRead → Type 0
 Fine x = Alone x (x .answer)
@@ -62,7 +62,7 @@ other-fine : (id : ℕ) → Fine (only (UnitAnswer.Other id))
 unfolding only
 other-fine id = tt
 
-refused-fine : (r : Refusal) → T (oneOf readNumbers (r .number)) → Fine (only (UnitAnswer.Refused r))
+refused-fine : (r : Refusal) → Placed (r .«has_bit») (r .number) → Fine (only (UnitAnswer.Refused r))
 unfolding only
 refused-fine r k = (refl, k)
 
@@ -72,7 +72,7 @@ abbrev Begins : Begun → Type 0
 Begins (Begun.Slice kind from) = Unit {0}
 Begins (Begun.«Prefix» there) = Unit {0}
 Begins (Begun.Other id) = Unit {0}
-Begins (Begun.Refused r) = T (oneOf readNumbers (r .number))
+Begins (Begun.Refused r) = Placed (r .«has_bit») (r .number)
 
 begins-by : (c : Bool) (a b : Begun) → Begins a → Begins b → Begins (pick c a b)
 begins-by true a b f g = f
@@ -80,7 +80,7 @@ begins-by false a b f g = g
 
 extended-begins : (unit : List ℕ) (h : NalHeader) → Begins (withExtension h (extensionOf unit))
 unfolding extensionOf extended
-extended-begins unit h = cases (leb 4 (length unit)) (λ i. rw i (begins-by (eqb (typeIn h) 14) _ _ tt tt)) (λ i. rw i tt)
+extended-begins unit h = cases (leb 4 (length unit)) (λ i. rw i (begins-by (eqb (typeIn h) 14) _ _ tt tt)) (λ i. rw i (tt, refl))
 
 typed-begins : (unit : List ℕ) (h : NalHeader) → Begins (typed unit h)
 unfolding typed
@@ -88,19 +88,19 @@ typed-begins unit h = begins-by (isPlain (typeIn h)) _ _ tt (begins-by (hasExten
 
 header-begins : (unit : List ℕ) → Begins (withHeader unit (headerOf unit))
 unfolding headerOf headerFrom
-header-begins [] = tt
-header-begins (b ∷ s) = cases (eqb (forbiddenZeroBitOf b) 0) (λ i. rw i (typed-begins (b ∷ s) _)) (λ i. rw i tt)
+header-begins [] = (tt, refl)
+header-begins (b ∷ s) = cases (eqb (forbiddenZeroBitOf b) 0) (λ i. rw i (typed-begins (b ∷ s) _)) (λ i. rw i (tt, refl))
 
 begun-begins : (unit : List ℕ) → Begins (begun unit)
 unfolding begun
-begun-begins unit = begins-by (leb (length unit) limit) _ _ (header-begins unit) tt
+begun-begins unit = begins-by (leb (length unit) limit) _ _ (header-begins unit) (tt, refl)
 
 -- ---- the whole unit
 
 module _ (t : Table) (unit scratch : List ℕ) where
   in-body : (reads : Bits → UnitRead) (from : ℕ) → ((s : Bits) → Fine (reads s)) → Fine (inBody reads unit from scratch .read)
   unfolding inBody only
-  in-body reads from f = cases (leb (length unit) (length scratch)) (λ i. rw i (f (bytesBits (body 0 (drop from unit))))) (λ i. rw i (refl, tt))
+  in-body reads from f = cases (leb (length unit) (length scratch)) (λ i. rw i (f (bytesBits (body 0 (drop from unit))))) (λ i. rw i (refl, (tt, refl)))
 
   slice-bits : (kind : UnitKind) (s : Bits) → Fine (sliceBits t kind s)
   unfolding sliceBits
@@ -140,7 +140,7 @@ module _ (t : Table) (unit scratch : List ℕ) where
 abbrev pub Idle : List ℕ → List ℕ → Step → Type 0
 Idle scratch left (Step.Unit place length next) = Unit {0}
 Idle scratch left Step.End = left ≡ scratch
-Idle scratch left (Step.Refused r) = (left ≡ scratch) × (r ≡ refusal tooLarge (pos 0) 0)
+Idle scratch left (Step.Refused r) = (left ≡ scratch) × (r ≡ refusal tooLarge (pos 0))
 
 module _ (t : Table) (s : List ℕ) (from : ℕ) (scratch : List ℕ) where
   searched : (f : Found) → Idle scratch (afterSearch t s scratch f .left) (afterSearch t s scratch f .walked .step)

@@ -3,7 +3,7 @@
 use Prim.Native.Nat.{ℕ, _+_, _≤_}
 use mathlib.Core.Path.{_≡_, sym, subst, subst⁻¹}
 use mathlib.Core.List.{List, _++_, map}
-use mathlib.Core.Bool.{true, _&&_}
+use mathlib.Core.Bool.{true, false, _&&_}
 use lib.Dec.{T, leb, eqb}
 use lib.IntN.{pos}
 use lib.ListN.{length, take, drop}
@@ -42,7 +42,7 @@ use Rattle.writer.proofs.Answers.{wrote}
 use Rattle.writer.proofs.Units.{slice-reads}
 use Rattle.writer.proofs.RoundTrip as writer
 use Rattle.writer.proofs.Refusing.{refused-with, told-starts, none-reads, unread-turned}
-use Rattle.promises.specs.Demands.{oneOf, readNumbers, writeNumbers, scratchAfter, unitOf, firstOf, extensionIn, bodyOf, bodyBits, Stands, UpTo25}
+use Rattle.promises.specs.Demands.{oneOf, readNumbers, bodyNumbers, writeNumbers, scratchAfter, unitOf, firstOf, extensionIn, bodyOf, bodyBits, Stands, UpTo25}
 use Rattle.promises.proofs.Cases.{Alone, unit-fine, unit-left, Idle, walk-idle, not-done}
 
 -- ---- demand 1: every call answers as the rules say, for refused input too, and leaves nothing behind that they do not name
@@ -54,7 +54,11 @@ module _ (t : Table) (unit scratch : List ℕ) where
 
   -- its number is one that reading gives
   pub demand-1-numbers-read : (r : Refusal) → unitRead t unit scratch .read .answer ≡ UnitAnswer.Refused r → T (oneOf readNumbers (r .number))
-  demand-1-numbers-read r e = subst (Alone (unitRead t unit scratch .read)) e (unit-fine t unit scratch) .1
+  demand-1-numbers-read r e = subst (Alone (unitRead t unit scratch .read)) e (unit-fine t unit scratch) .1 .0
+
+  -- it has a bit place exactly where it arises while the body is read
+  pub demand-1-place : (r : Refusal) → unitRead t unit scratch .read .answer ≡ UnitAnswer.Refused r → r .«has_bit» ≡ oneOf bodyNumbers (r .number)
+  demand-1-place r e = subst (Alone (unitRead t unit scratch .read)) e (unit-fine t unit scratch) .1 .1
 
   -- scratch starts with the unescaped body, or is untouched, whatever the answer
   pub demand-1-scratch : unitRead t unit scratch .left ≡ scratchAfter unit scratch
@@ -66,15 +70,19 @@ module _ (t : Table) (first : ℕ) (x : ExtensionGiven) (h : SliceHeader) (out :
   demand-1-refused-write = refused-with t first x h out e .0
 
   pub demand-1-numbers-write : T (oneOf writeNumbers (r .number))
-  demand-1-numbers-write = refused-with t first x h out e .1
+  demand-1-numbers-write = refused-with t first x h out e .1 .0
+
+  -- nothing that is written has a place in a body
+  pub demand-1-no-place : r .«has_bit» ≡ false
+  demand-1-no-place = refused-with t first x h out e .1 .1
 
 -- a refused put alters nothing, and is 24
 module _ (t : Table) (id : ℕ) (r : Refusal) where
-  pub demand-1-refused-table-sequence : (s : Sequence) → putSequence t id s .answer ≡ Changed.Refused r → (putSequence t id s .table ≡ t) × (r ≡ refusal 24 (pos 0) 0)
+  pub demand-1-refused-table-sequence : (s : Sequence) → putSequence t id s .answer ≡ Changed.Refused r → (putSequence t id s .table ≡ t) × (r ≡ refusal 24 (pos 0))
   unfolding sequencePut
   demand-1-refused-table-sequence s e = cases (leb id 31 && sequenceFits s) (λ g. not-done (rw g at e)) (λ g. (rw g, sym (cc (rw g at e))))
 
-  pub demand-1-refused-table-picture : (p : Picture) → putPicture t id p .answer ≡ Changed.Refused r → (putPicture t id p .table ≡ t) × (r ≡ refusal 24 (pos 0) 0)
+  pub demand-1-refused-table-picture : (p : Picture) → putPicture t id p .answer ≡ Changed.Refused r → (putPicture t id p .table ≡ t) × (r ≡ refusal 24 (pos 0))
   unfolding picturePut
   demand-1-refused-table-picture p e = cases (leb id 255 && pictureFits p) (λ g. not-done (rw g at e)) (λ g. (rw g, sym (cc (rw g at e))))
 
@@ -83,7 +91,7 @@ module _ (t : Table) (s : List ℕ) (from : ℕ) (scratch : List ℕ) where
   pub demand-1-scratch-end : walked t s from scratch .walked .step ≡ Step.End → walked t s from scratch .left ≡ scratch
   demand-1-scratch-end e = subst (Idle scratch (walked t s from scratch .left)) e (walk-idle t s from scratch)
 
-  pub demand-1-refused-walk : (r : Refusal) → walked t s from scratch .walked .step ≡ Step.Refused r → (walked t s from scratch .left ≡ scratch) × (r ≡ refusal tooLarge (pos 0) 0)
+  pub demand-1-refused-walk : (r : Refusal) → walked t s from scratch .walked .step ≡ Step.Refused r → (walked t s from scratch .left ≡ scratch) × (r ≡ refusal tooLarge (pos 0))
   demand-1-refused-walk r e = subst (Idle scratch (walked t s from scratch .left)) e (walk-idle t s from scratch)
 
 -- ---- demand 2: a header that is read is what the standard's table says; it is written back to its exact bits, and what is written reads back
@@ -123,7 +131,7 @@ module _ (t : Table) (u scratch : List ℕ) (h : SliceHeader) (e : ℕ) (a : uni
 
 -- 25 is exact: where it is given, no unit that starts as the writer was told reads as the record; where no bits read to it, the answer is neither bits nor 26
 module _ (t : Table) (first : ℕ) (x : ExtensionGiven) (h : SliceHeader) (out : List ℕ) where
-  pub demand-2-25-exact : writeHeader t first x h out .answer ≡ HeaderWrote.Refused (refusal noBits (pos 0) 0) → (v scratch : List ℕ) (e : ℕ)
+  pub demand-2-25-exact : writeHeader t first x h out .answer ≡ HeaderWrote.Refused (refusal noBits (pos 0)) → (v scratch : List ℕ) (e : ℕ)
       → unitRead t (unitOf first x v) scratch .read .answer ≡ UnitAnswer.Slice e → unitRead t (unitOf first x v) scratch .read .header ≡ h → ⊥
   demand-2-25-exact = none-reads t first x h out
 

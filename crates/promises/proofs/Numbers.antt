@@ -1,5 +1,6 @@
--- Which numbers a refusal can have that arises while a body is read: one law for each combinator and each single field, and so for the header and the prefix.
+-- Which numbers a refusal can have that arises while a body is read, and that it has a place there: one law for each combinator and each single field, and so for the header and the prefix.
 use Prim.Native.Nat.{ℕ, zero, suc, _+_}
+use mathlib.Core.Path.{_≡_, refl}
 use mathlib.Core.List.{[], _∷_}
 use mathlib.Core.Bool.{Bool, true, false, not}
 use lib.Dec.{T, leb, eqb}
@@ -18,12 +19,16 @@ use Rattle.syntax.specs.Lists.{Kind, entries, noOperations, isNoOperations, cod
 use Rattle.syntax.specs.Context.{contextFor}
 use Rattle.syntax.specs.SliceHeader.{sliceType, pictureSetId, lead, frame, deltas, orderCount, activeMinus1, activeCounts, modification, modificationKind, notScalable, modifications, weight, weightList, predWeightTable, markingKind, decRefPicMarking, quantiser, filter, parts, header, anySet, readHeader}
 use Rattle.syntax.specs.Prefix.{baseMarkingKind, prefix}
-use Rattle.promises.specs.Demands.{oneOf, readNumbers}
+use Rattle.promises.specs.Demands.{oneOf, readNumbers, bodyNumbers}
 
--- a value, or a refusal with one of the numbers that reading gives
+-- a number that reading gives; where it is given in a body, with a bit place
+abbrev pub Placed : Bool → ℕ → Type 0
+Placed there n = T (oneOf readNumbers n) × (there ≡ oneOf bodyNumbers n)
+
+-- a value, or a refusal with such a number
 abbrev pub Known : {A : Type 0} → Res A → Type 0
 Known (got a e) = Unit {0}
-Known (no r) = T (oneOf readNumbers (r .number))
+Known (no r) = Placed (r .«has_bit») (r .number)
 
 after : {A B : Type 0} (m : Res A) (k : A → ℕ → Res B) → Known m → ((a : A) (e : ℕ) → Known (k a e)) → Known (bind m k)
 after (got a e) k h f = f a e
@@ -40,16 +45,16 @@ pub record Gives {A : Type 0} (F : Fmt A) : Type 0 where
 
 fixed-known : (n : ℕ) (s : Bits) (p : ℕ) → Known (fixedAt n s p)
 unfolding fixedAt
-fixed-known n s p = by-test (leb (p + n) (length s)) _ _ tt tt
+fixed-known n s p = by-test (leb (p + n) (length s)) _ _ tt (tt, refl)
 
 suffix-known : (z : ℕ) (l : Bits) (p : ℕ) → Known (suffixAt z l p)
 unfolding suffixAt
-suffix-known z l p = by-test (leb z (length l)) _ _ tt tt
+suffix-known z l p = by-test (leb z (length l)) _ _ tt (tt, refl)
 
 code-known : (n z : ℕ) (l : Bits) (p : ℕ) → Known (codeAt n z l p)
 unfolding codeAt
-code-known zero z l p = tt
-code-known (suc n) z [] p = tt
+code-known zero z l p = (tt, refl)
+code-known (suc n) z [] p = (tt, refl)
 code-known (suc n) z (false ∷ l) p = code-known n (suc z) l p
 code-known (suc n) z (true ∷ l) p = suffix-known z l p
 
@@ -87,7 +92,7 @@ pub shaped-gives : {A B : Type 0} (to : A → B) (from : B → A) (ok : B → Bo
 unfolding shaped
 shaped-gives to from ok F f = record { known = λ s at. after (F .read s at) _ (f .known s at) (λ a e. tt) }
 
-pub test-gives : {A : Type 0} (ok : A → Bool) (n : ℕ) (value : A → ℤ) (F : Fmt A) → T (oneOf readNumbers n) → Gives F → Gives (test ok n value F)
+pub test-gives : {A : Type 0} (ok : A → Bool) (n : ℕ) (value : A → ℤ) (F : Fmt A) → Placed true n → Gives F → Gives (test ok n value F)
 unfolding test
 test-gives ok n value F h f = record { known = λ s at. after (F .read s at) _ (f .known s at) (λ a e. by-test (ok a) _ _ tt h) }
 
@@ -104,7 +109,7 @@ times-gives F f (suc n) =
 
 pub until-gives : {A : Type 0} (C : Fmt ℕ) (close : ℕ) (G : ℕ → Fmt A) → Gives C → ((c : ℕ) → Gives (G c)) → (n : ℕ) → Gives (until C close G n)
 unfolding until
-until-gives C close G f g zero = record { known = λ s at. after (C .read s at) _ (f .known s at) (λ c e. by-test (eqb c close) _ _ tt tt) }
+until-gives C close G f g zero = record { known = λ s at. after (C .read s at) _ (f .known s at) (λ c e. by-test (eqb c close) _ _ tt (tt, refl)) }
 until-gives C close G f g (suc n) =
     let r = until-gives C close G f g n in
     record {
@@ -134,7 +139,7 @@ module _ (b : Bool) where
   unfolding given
   given-gives z isz F f = shaped-gives _ _ _ (when b z isz F) (when-gives b z isz F f)
 
-pub operationsIf-gives : (b : Bool) (k : Kind) → T (oneOf readNumbers (k .number)) → Gives (operationsIf b k)
+pub operationsIf-gives : (b : Bool) (k : Kind) → Placed true (k .number) → Gives (operationsIf b k)
 unfolding operationsIf operations code operands
 operationsIf-gives b k h =
     let operand : (there : Bool) → Gives (given there 0 isZero ue) = λ there. given-gives there 0 isZero ue ue-gives in
@@ -148,13 +153,13 @@ then {F = F} {G} = seq-gives F G
 
 pub lead-gives : (t : Table) → Gives (lead t)
 unfolding lead sliceType pictureSetId
-lead-gives t = then ue-gives (λ v. then (test-gives _ 7 _ _ tt ue-gives) (λ k. test-gives _ 10 _ _ tt (test-gives _ 9 _ _ tt (test-gives _ 8 _ _ tt ue-gives))))
+lead-gives t = then ue-gives (λ v. then (test-gives _ 7 _ _ (tt, refl) ue-gives) (λ k. test-gives _ 10 _ _ (tt, refl) (test-gives _ 9 _ _ (tt, refl) (test-gives _ 8 _ _ (tt, refl) ue-gives))))
 
 pub frame-gives : (x : Context) → Gives (frame x)
 unfolding frame
 frame-gives x =
     shaped-gives _ _ _ _
-    (then (numberIf-gives _ _ (test-gives _ 11 _ _ tt (u-gives 2))) (λ plane.
+    (then (numberIf-gives _ _ (test-gives _ 11 _ _ (tt, refl) (u-gives 2))) (λ plane.
     then (u-gives _) (λ num.
     then (flagIf-gives _) (λ field.
     then (flagIf-gives _) (λ bottom.
@@ -175,15 +180,15 @@ activeCounts-gives k =
     shaped-gives _ _ _ _
     (then (flagIf-gives _) (λ direct.
     then (flagIf-gives _) (λ override.
-    then (numberIf-gives _ _ (test-gives _ 21 _ _ tt ue-gives)) (λ l0.
-    numberIf-gives _ _ (test-gives _ 21 _ _ tt ue-gives)))))
+    then (numberIf-gives _ _ (test-gives _ 21 _ _ (tt, refl) ue-gives)) (λ l0.
+    numberIf-gives _ _ (test-gives _ 21 _ _ (tt, refl) ue-gives)))))
 
 pub modifications-gives : (x : Context) (k : ℕ) → Gives (modifications x k)
 unfolding modifications notScalable modification
 modifications-gives x k =
     let one : (there : Bool) → Gives (modification (x .kind .mvc) there)
-    = λ there. shaped-gives _ _ _ _ (then (flagIf-gives _) (λ flag. operationsIf-gives _ (modificationKind (x .kind .mvc)) tt)) in
-    shaped-gives _ _ _ _ (then (test-gives _ 13 _ _ tt nothing-gives) (λ v. then (one _) (λ l0. one _)))
+    = λ there. shaped-gives _ _ _ _ (then (flagIf-gives _) (λ flag. operationsIf-gives _ (modificationKind (x .kind .mvc)) (tt, refl))) in
+    shaped-gives _ _ _ _ (then (test-gives _ 13 _ _ (tt, refl) nothing-gives) (λ v. then (one _) (λ l0. one _)))
 
 weight-gives : (chroma : Bool) → Gives (weight chroma)
 unfolding weight
@@ -219,24 +224,24 @@ marking-gives x =
     (then (flagIf-gives _) (λ prior.
     then (flagIf-gives _) (λ long.
     then (flagIf-gives _) (λ adaptive.
-    operationsIf-gives _ markingKind tt))))
+    operationsIf-gives _ markingKind (tt, refl)))))
 
 pub quantiser-gives : (x : Context) (k : ℕ) → Gives (quantiser x k)
 unfolding quantiser
 quantiser-gives x k =
     shaped-gives _ _ _ _
     (then (numberIf-gives _ _ ue-gives) (λ cabac.
-    then (test-gives _ 16 _ _ tt se-gives) (λ qp.
+    then (test-gives _ 16 _ _ (tt, refl) se-gives) (λ qp.
     then (flagIf-gives _) (λ sp.
-    signedIf-gives _ _ (test-gives _ 17 _ _ tt se-gives)))))
+    signedIf-gives _ _ (test-gives _ 17 _ _ (tt, refl) se-gives)))))
 
 pub filter-gives : (x : Context) → Gives (filter x)
 unfolding filter
 filter-gives x =
     shaped-gives _ _ _ _
-    (then (numberIf-gives _ _ (test-gives _ 18 _ _ tt ue-gives)) (λ idc.
-    then (signedIf-gives _ _ (test-gives _ 19 _ _ tt se-gives)) (λ alpha.
-    then (signedIf-gives _ _ (test-gives _ 20 _ _ tt se-gives)) (λ beta.
+    (then (numberIf-gives _ _ (test-gives _ 18 _ _ (tt, refl) ue-gives)) (λ idc.
+    then (signedIf-gives _ _ (test-gives _ 19 _ _ (tt, refl) se-gives)) (λ alpha.
+    then (signedIf-gives _ _ (test-gives _ 20 _ _ (tt, refl) se-gives)) (λ beta.
     numberIf-gives _ _ (u-gives _)))))
 
 -- ---- the header, and the prefix
@@ -258,9 +263,9 @@ header-gives t n =
 
 pub header-known : (t : Table) (n : UnitKind) (s : Bits) → Known (readHeader t n s)
 unfolding readHeader
-header-known t n s = after (header t n .read s 0) _ (header-gives t n .known s 0) (λ h e. by-test (anySet (drop (e + 1) s)) _ _ tt tt)
+header-known t n s = after (header t n .read s 0) _ (header-gives t n .known s 0) (λ h e. by-test (anySet (drop (e + 1) s)) _ _ tt (tt, refl))
 
 pub prefix-known : (there : Bool) (s : Bits) → Known (prefix there .read s 0)
 unfolding prefix
 prefix-known there s =
-    shaped-gives _ _ _ _ (then (flagIf-gives there) (λ store. then (operationsIf-gives (store .value) baseMarkingKind tt) (λ base. flagIf-gives there))) .known s 0
+    shaped-gives _ _ _ _ (then (flagIf-gives there) (λ store. then (operationsIf-gives (store .value) baseMarkingKind (tt, refl)) (λ base. flagIf-gives there))) .known s 0

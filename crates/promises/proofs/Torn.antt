@@ -5,7 +5,7 @@ use mathlib.Core.List.{List, [], _∷_}
 use mathlib.Core.Bool.{false}
 use lib.IntN.{pos, negsuc}
 use lib.ListN.{length, take, replicate}
-use Rattle.bits.specs.Refusals.{refusal}
+use Rattle.bits.specs.Refusals.{refusalAt}
 use Rattle.bits.specs.Bits.{digits, numberOf, bytesBits}
 use Rattle.bits.specs.Codes.{fixedAt, suffixAt, codeAt, ueAt, seOf}
 use Rattle.fmt.specs.Fmt.{nothing, seq, shaped, test, when, times, until}
@@ -87,12 +87,12 @@ Shown =
     × ((reads sound .header .quantiser .«slice_qp_delta» ≡ pos 16)
     × ((reads nearer .header .quantiser .«slice_qp_delta» ≡ negsuc 15)
     × ((moreBehind 29 bare ≡ false)
-    × ((reads bare ≡ only (UnitAnswer.Refused (refusal 22 (pos 0) 29)))
+    × ((reads bare ≡ only (UnitAnswer.Refused (refusalAt 22 (pos 0) 29)))
     -- an end mark behind the header, and one that begins within its last byte
     × ((walks marked ≡ record { step = Step.Unit 3 6 9; read = reads sound })
     × ((take 8 cut ≡ take 8 marked)
     × ((moreBehind 29 (unitFrom cut 3) ≡ false)
-    × (walks cut ≡ record { step = Step.Unit 3 4 7; read = only (UnitAnswer.Refused (refusal 5 (pos 0) 18)) })))))))))))))))
+    × (walks cut ≡ record { step = Step.Unit 3 4 7; read = only (UnitAnswer.Refused (refusalAt 5 (pos 0) 18)) })))))))))))))))
 
 pub torn-shown : Shown
 unfolding all readHeader header parts lead sliceType pictureSetId frame orderCount deltas activeCounts modifications notScalable modification predWeightTable weightList weight decRefPicMarking quantiser filter numberIf signedIf flagIf given operationsIf operations nothing seq shaped test when times until flag u ue se fixedAt suffixAt codeAt ueAt seOf bytesBits digits numberOf pictureFor sequenceIdFor sequenceFor contextFor sequenceFits pictureFits sequencePut picturePut sequenceIn pictureIn sequenceEntry pictureEntry sequenceOf pictureOf sequenceMarks sequenceWords pictureMarks pictureWords sampleTable toOperations pad typeOf forbiddenZeroBitOf nalRefIdc nalUnitType headerFrom headerOf kindOf typed begun inBody sliceBits unitRead lenOf unitAt firstFrom nextUnit no-unit walked only

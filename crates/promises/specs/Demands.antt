@@ -26,6 +26,10 @@ oneOf (m ∷ ms) n = eqb n m || oneOf ms n
 abbrev pub readNumbers : List ℕ
 readNumbers = 1 ∷ 2 ∷ 4 ∷ 5 ∷ 6 ∷ 7 ∷ 8 ∷ 9 ∷ 10 ∷ 11 ∷ 12 ∷ 13 ∷ 14 ∷ 15 ∷ 16 ∷ 17 ∷ 18 ∷ 19 ∷ 20 ∷ 21 ∷ 22 ∷ 23 ∷ 26 ∷ 27 ∷ []
 
+-- those of them that arise while a body is read: they have a bit place, the others have none
+abbrev pub bodyNumbers : List ℕ
+bodyNumbers = 5 ∷ 6 ∷ 7 ∷ 8 ∷ 9 ∷ 10 ∷ 11 ∷ 12 ∷ 13 ∷ 14 ∷ 15 ∷ 16 ∷ 17 ∷ 18 ∷ 19 ∷ 20 ∷ 21 ∷ 22 ∷ 23 ∷ []
+
 -- writing a header
 abbrev pub writeNumbers : List ℕ
 writeNumbers = 2 ∷ 3 ∷ 4 ∷ 13 ∷ 8 ∷ 9 ∷ 10 ∷ 25 ∷ 26 ∷ []

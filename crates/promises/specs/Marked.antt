@@ -4,7 +4,7 @@ use mathlib.Core.List.{List, [], _∷_}
 use Prim.Native.Nat.{ℕ}
 use lib.IntN.{ℤ, pos, negsuc}
 use lib.ListN.{length, replicate}
-use Rattle.bits.specs.Refusals.{Res, got, refusal}
+use Rattle.bits.specs.Refusals.{Res, got, refusalAt}
 use Rattle.bits.specs.Bits.{bitsOf}
 use Rattle.bits.specs.Codes.{ueAt, seAt}
 use Rattle.bits.specs.Width.{changeCycleWidth}
@@ -67,9 +67,9 @@ marked =
     -- P6 `65 88 84 A0`
     ∷ unit (0x65 ∷ 0x88 ∷ 0x84 ∷ 0xA0 ∷ []) (record { answer = UnitAnswer.Slice 17; header = sampleHeader; prefix = noPrefix })
     -- P7 `65 88 84 80`
-    ∷ unit (0x65 ∷ 0x88 ∷ 0x84 ∷ 0x80 ∷ []) (only (UnitAnswer.Refused (refusal 22 (pos 0) 17)))
+    ∷ unit (0x65 ∷ 0x88 ∷ 0x84 ∷ 0x80 ∷ []) (only (UnitAnswer.Refused (refusalAt 22 (pos 0) 17)))
     -- P8 `65 88 84 C0`
-    ∷ unit (0x65 ∷ 0x88 ∷ 0x84 ∷ 0xC0 ∷ []) (only (UnitAnswer.Refused (refusal 22 (pos 0) 17)))
+    ∷ unit (0x65 ∷ 0x88 ∷ 0x84 ∷ 0xC0 ∷ []) (only (UnitAnswer.Refused (refusalAt 22 (pos 0) 17)))
     -- P9, P10, P11
     ∷ width 99 11 4
     ∷ width 7 1 3

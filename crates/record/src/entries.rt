@@ -1,9 +1,9 @@
 // Lists out of their words: the entries that a count says are in use. Words behind them are not looked at.
+use lists::list_words::at_most_66;
 use syntax::record::Operations;
 use syntax::record::Weight;
 use syntax::record::WeightList;
 use weights::list::at_most_32;
-use lists::list_words::at_most_66;
 ghost use mathlib.Core.Path.{_≡_};
 ghost use Prim.Native.Nat.{_*_, _<_};
 ghost use lib.IntN.{pos};

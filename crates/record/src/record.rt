@@ -1,20 +1,20 @@
 // The record that lent words hold, taken out of them.
 use crate::entries::operations_of;
 use crate::entries::weights_of;
-use crate::fields::active_counts_of;
-use crate::fields::filter_of;
-use crate::fields::frame_of;
-use crate::fields::marked_flag;
-use crate::fields::marked_number;
-use crate::fields::order_count_of;
-use crate::fields::quantiser_of;
+use crate::parts_of::active_counts_of;
+use crate::parts_of::filter_of;
+use crate::parts_of::frame_of;
+use crate::parts_of::marked_flag;
+use crate::parts_of::marked_number;
+use crate::parts_of::order_count_of;
+use crate::parts_of::quantiser_of;
+use lists::list_words::PrefixShort;
 use syntax::record::DecRefPicMarking;
 use syntax::record::Modification;
 use syntax::record::Modifications;
 use syntax::record::PredWeightTable;
 use syntax::record::Prefix;
 use syntax::record::SliceHeader;
-use lists::list_words::PrefixShort;
 ghost use mathlib.Core.Path.{_≡_};
 ghost use Rattle.record.specs.Record.{modificationsFrom, weightTableFrom, markingFrom, headerFrom, prefixFrom};
 

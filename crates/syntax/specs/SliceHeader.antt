@@ -6,7 +6,7 @@ use mathlib.Core.Bool.{Bool, true, false, not, _&&_, _||_}
 use lib.Dec.{eqb, leb}
 use lib.IntN.{ℤ, pos, negsuc}
 use lib.ListN.{length, take, drop}
-use Rattle.bits.specs.Refusals.{Res, got, no, bind, pick, refusal}
+use Rattle.bits.specs.Refusals.{Res, got, no, bind, pick, refusalAt}
 use Rattle.bits.specs.Bits.{Bits}
 use Rattle.bits.specs.Width.{changeCycleWidth}
 use Rattle.fmt.specs.Fmt.{Fmt, nothing, seq, shaped, test, when, times}
@@ -312,4 +312,4 @@ anySet (b ∷ l) = b || anySet l
 
 -- a set bit strictly after the bit that follows the header: else 22, at the place reached
 unfoldable pub readHeader : Table → UnitKind → Bits → Res SliceHeader
-readHeader t n s = bind (header t n .read s 0) (λ h e. pick (anySet (drop (e + 1) s)) (got h e) (no (refusal 22 (pos 0) e)))
+readHeader t n s = bind (header t n .read s 0) (λ h e. pick (anySet (drop (e + 1) s)) (got h e) (no (refusalAt 22 (pos 0) e)))

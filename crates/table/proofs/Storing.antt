@@ -34,7 +34,7 @@ stored t k a w = ap (λ (i : ℕ). sets (set t k a) i w) (omega arith) ∙ store
 -- ---- what a put of the words w gives, for any kind of entry
 
 abbrev pub refused : List ℕ → Put
-refused t = record { answer = Changed.Refused (refusal tableField (pos 0) 0); left = t }
+refused t = record { answer = Changed.Refused (refusal tableField (pos 0)); left = t }
 
 -- what is given, part by part
 pub parts : {p q : Put} → p ≡ q → (q .answer ≡ p .answer) × (q .left ≡ p .left)

@@ -125,7 +125,7 @@ pub record Put : Type 0 where
 -- the words in place of the entry's, where all is in range; else 24 and no change
 abbrev pub putWords : Bool → List ℕ → ℕ → List ℕ → Put
 putWords good t at w =
-    pick good (record { answer = Changed.Done; left = sets t at w }) (record { answer = Changed.Refused (refusal tableField (pos 0) 0); left = t })
+    pick good (record { answer = Changed.Done; left = sets t at w }) (record { answer = Changed.Refused (refusal tableField (pos 0)); left = t })
 
 unfoldable pub sequencePut : List ℕ → ℕ → Sequence → Put
 sequencePut t id s = putWords (leb id 31 && sequenceFits s) t (id * 7) (sequenceWords s)

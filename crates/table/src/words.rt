@@ -156,10 +156,10 @@ pub fn put_sequence_in(t: &mut [u32; 224], id: u32, s: Sequence) -> Changed
     ensures { λ r. ⌜ (r ≡ sequencePut (now (t .entry)) id s .answer) × (now (t .exit) ≡ sequencePut (now (t .entry)) id s .left) ⌝ }
 {
     if 31 < id {
-        return Changed::Refused(refuse(TABLE_FIELD, 0, 0));
+        return Changed::Refused(refuse(TABLE_FIELD, 0));
     }
     if !sequence_fits(s) {
-        return Changed::Refused(refuse(TABLE_FIELD, 0, 0));
+        return Changed::Refused(refuse(TABLE_FIELD, 0));
     }
     let marks = sequence_marks(s);
     let k = id * 7; // seven words an entry
@@ -178,10 +178,10 @@ pub fn put_picture_in(t: &mut [u32; 2048], id: u32, p: Picture) -> Changed
     ensures { λ r. ⌜ (r ≡ picturePut (now (t .entry)) id p .answer) × (now (t .exit) ≡ picturePut (now (t .entry)) id p .left) ⌝ }
 {
     if 255 < id {
-        return Changed::Refused(refuse(TABLE_FIELD, 0, 0));
+        return Changed::Refused(refuse(TABLE_FIELD, 0));
     }
     if !picture_fits(p) {
-        return Changed::Refused(refuse(TABLE_FIELD, 0, 0));
+        return Changed::Refused(refuse(TABLE_FIELD, 0));
     }
     let marks = picture_marks(p);
     let k = id * 8; // eight words an entry

@@ -36,11 +36,20 @@ fn byte(b: u8) {
     io::print_hex(STDOUT_FILENO, b as u64, 2);
 }
 
+// The place of a refusal, if it has one.
+fn place(r: Refusal) {
+    if r.has_bit {
+        text(b" bit=");
+        number(r.bit as u64);
+    }
+}
+
 pub(crate) fn refusal(r: Refusal) {
     text(b"refused ");
     number(r.number as u64);
     text(b" value=");
     signed(r.value);
+    place(r);
 }
 
 pub(crate) fn read(a: Read) {

@@ -26,7 +26,15 @@ pub(crate) fn changed(a: Changed) {
             text(b": refused ");
             number(r.number as u32);
             value(r.value);
+            place(r.has_bit);
         }
+    }
+}
+
+// Nothing that the table refuses has a place.
+fn place(there: bool) {
+    if there {
+        text(b" bit=other");
     }
 }
 

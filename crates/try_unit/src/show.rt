@@ -1,4 +1,5 @@
 // A unit read with the sample sets, and a picture set 1 with deblocking control: its answer as text.
+use bits::refusals::Refusal;
 use libc::STDOUT_FILENO;
 use syntax::record::SliceHeader;
 use table::sets::Picture;
@@ -83,9 +84,18 @@ pub(crate) fn shown(name: &[u8], bytes: &[u8], value: i64, said: &[u8]) {
             } else {
                 text(b"other");
             }
+            place(x);
         }
     }
     text(b"\n");
+}
+
+// The place of a refusal, if it has one.
+fn place(x: Refusal) {
+    if x.has_bit {
+        text(b" bit=");
+        io::print_decimal(STDOUT_FILENO, x.bit as u64);
+    }
 }
 
 fn header(h: SliceHeader) {

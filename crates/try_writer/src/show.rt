@@ -19,11 +19,20 @@ fn value(z: i64) {
     }
 }
 
+// Nothing that the writer refuses has a place; what is refused when it is read back has.
+fn place(r: Refusal) {
+    if r.has_bit {
+        text(b" bit=");
+        number(r.bit as u64);
+    }
+}
+
 pub(crate) fn refusal(r: Refusal) {
     text(b"refused ");
     number(r.number as u64);
     text(b" value=");
     value(r.value);
+    place(r);
 }
 
 pub(crate) fn byte_at(d: &[u8], i: usize) -> u8 {

@@ -35,13 +35,13 @@ begun-small unit b e g = go (leb (length unit) limit) refl
     go : (t : Bool) → leb (length unit) limit ≡ t → length unit ≤ limit
     go true p = leb-true (length unit) limit p
     go false p =
-        let l : b ≡ Begun.Refused (refusal tooLarge (pos 0) 0) = rw p at e in
+        let l : b ≡ Begun.Refused (refusal tooLarge (pos 0)) = rw p at e in
         absurd (true≢false (sym g ∙ ap isRead l))
 
 -- ---- a body
 
 module _ (reads : Bits → UnitRead) (unit : List ℕ) (from : ℕ) (scratch : List ℕ) where
-  body-short : length scratch < length unit → inBody reads unit from scratch ≡ untouched (UnitAnswer.Refused (refusal bufferTooShort (pos (length unit)) 0)) scratch
+  body-short : length scratch < length unit → inBody reads unit from scratch ≡ untouched (UnitAnswer.Refused (refusal bufferTooShort (pos (length unit)))) scratch
   unfolding inBody
   body-short h = rw (lt-leb (length unit) (length scratch) h)
 
@@ -50,7 +50,7 @@ module _ (reads : Bits → UnitRead) (unit : List ℕ) (from : ℕ) (scratch : L
   body-left = go (leb (length unit) (length scratch)) refl
     where
       go : (t : Bool) → leb (length unit) (length scratch) ≡ t
-          → length (pick t (record { read = reads (bytesBits (body 0 (drop from unit))); left = startWith (body 0 (drop from unit)) scratch }) (untouched (UnitAnswer.Refused (refusal bufferTooShort (pos (length unit)) 0)) scratch) .left) ≡ length scratch
+          → length (pick t (record { read = reads (bytesBits (body 0 (drop from unit))); left = startWith (body 0 (drop from unit)) scratch }) (untouched (UnitAnswer.Refused (refusal bufferTooShort (pos (length unit)))) scratch) .left) ≡ length scratch
       go true p = same-room (body 0 (drop from unit)) scratch (omega (arith, leb-true (length unit) (length scratch) p, part-length unit from))
       go false p = refl
 
@@ -58,17 +58,17 @@ module _ (reads : Bits → UnitRead) (unit : List ℕ) (from : ℕ) (scratch : L
 
 module _ (t : Table) (unit scratch : List ℕ) where
   -- 27 before all others
-  pub too-large : limit < length unit → unitRead t unit scratch ≡ untouched (UnitAnswer.Refused (refusal tooLarge (pos 0) 0)) scratch
+  pub too-large : limit < length unit → unitRead t unit scratch ≡ untouched (UnitAnswer.Refused (refusal tooLarge (pos 0))) scratch
   unfolding unitRead begun
   too-large h = rw (lt-leb (length unit) limit h)
 
   -- 26
   pub too-short : isRead (begun unit) ≡ true → length scratch < length unit
-      → unitRead t unit scratch ≡ untouched (UnitAnswer.Refused (refusal bufferTooShort (pos (length unit)) 0)) scratch
+      → unitRead t unit scratch ≡ untouched (UnitAnswer.Refused (refusal bufferTooShort (pos (length unit)))) scratch
   unfolding unitRead
   too-short g h = go (begun unit) g
     where
-      go : (b : Begun) → isRead b ≡ true → afterBegin t unit scratch b ≡ untouched (UnitAnswer.Refused (refusal bufferTooShort (pos (length unit)) 0)) scratch
+      go : (b : Begun) → isRead b ≡ true → afterBegin t unit scratch b ≡ untouched (UnitAnswer.Refused (refusal bufferTooShort (pos (length unit)))) scratch
       go (Begun.Slice kind from) g = body-short _ unit from scratch h
       go (Begun.«Prefix» there) g = body-short _ unit 4 scratch h
       go (Begun.Other id) g = absurd (true≢false (sym g))
@@ -97,6 +97,6 @@ module _ (t : Table) (unit scratch : List ℕ) where
       go (Begun.Refused r) = refl
 
 -- 1
-pub no-byte : (t : Table) (scratch : List ℕ) → unitRead t [] scratch ≡ untouched (UnitAnswer.Refused (refusal noByte (pos 0) 0)) scratch
+pub no-byte : (t : Table) (scratch : List ℕ) → unitRead t [] scratch ≡ untouched (UnitAnswer.Refused (refusal noByte (pos 0))) scratch
 unfolding unitRead begun headerOf
 no-byte t scratch = refl

@@ -14,7 +14,7 @@ use Rattle.unit.specs.Unit.{untouched, inBody, unitRead}
 
 module _ (t : Table) where
   -- the top bit wins over the missing extension, and over the short scratch
-  pub top-bit : unitRead t (148 ∷ []) [] ≡ untouched (UnitAnswer.Refused (refusal 2 (pos 0) 0)) []
+  pub top-bit : unitRead t (148 ∷ []) [] ≡ untouched (UnitAnswer.Refused (refusal 2 (pos 0))) []
   unfolding unitRead begun headerOf headerFrom forbiddenZeroBitOf digits numberOf
   top-bit = refl
 
@@ -24,12 +24,12 @@ module _ (t : Table) where
   other = refl
 
   -- type 20 with two bytes of extension, and no scratch: 4 wins over 26
-  pub two-bytes : unitRead t (116 ∷ 0 ∷ 0 ∷ []) [] ≡ untouched (UnitAnswer.Refused (refusal 4 (pos 0) 0)) []
+  pub two-bytes : unitRead t (116 ∷ 0 ∷ 0 ∷ []) [] ≡ untouched (UnitAnswer.Refused (refusal 4 (pos 0))) []
   unfolding unitRead begun headerOf headerFrom forbiddenZeroBitOf typed nalUnitType typeOf digits numberOf extensionOf
   two-bytes = refl
 
   -- 65 88 84 A0 with three bytes of scratch: 26, and four are needed
-  pub three-of-four : unitRead t (101 ∷ 136 ∷ 132 ∷ 160 ∷ []) (7 ∷ 8 ∷ 9 ∷ []) ≡ untouched (UnitAnswer.Refused (refusal 26 (pos 4) 0)) (7 ∷ 8 ∷ 9 ∷ [])
+  pub three-of-four : unitRead t (101 ∷ 136 ∷ 132 ∷ 160 ∷ []) (7 ∷ 8 ∷ 9 ∷ []) ≡ untouched (UnitAnswer.Refused (refusal 26 (pos 4))) (7 ∷ 8 ∷ 9 ∷ [])
   unfolding unitRead begun headerOf headerFrom forbiddenZeroBitOf typed nalUnitType typeOf digits numberOf inBody
   three-of-four = refl
 

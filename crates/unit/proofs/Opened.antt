@@ -30,7 +30,7 @@ module _ (unit : List ℕ) (from : ℕ) (scratch z : List ℕ) (small : length u
   B = body 0 (drop from unit)
 
   abbrev short : Refusal
-  short = refusal bufferTooShort (pos (length unit)) 0
+  short = refusal bufferTooShort (pos (length unit))
 
   -- the part that was written lies in scratch
   pub written : {n : ℕ} → Body.Of n ≡ unescaped unit from scratch .answer → n ≤ length z

@@ -67,7 +67,7 @@ body-ordered reads unit from scratch f = go (leb (length unit) (length scratch))
     out t =
         pick t
         (record { read = reads (bytesBits (body 0 (drop from unit))); left = startWith (body 0 (drop from unit)) scratch })
-        (untouched (UnitAnswer.Refused (refusal bufferTooShort (pos (length unit)) 0)) scratch)
+        (untouched (UnitAnswer.Refused (refusal bufferTooShort (pos (length unit)))) scratch)
 
     go : (t : Bool) → Ordered (out t .read .answer) (out t .read)
     go true = f (bytesBits (body 0 (drop from unit)))

@@ -52,4 +52,4 @@ withHeader unit (NalHeaderRead.Refused r) = Begun.Refused r
 
 -- 27 first
 unfoldable pub begun : List ℕ → Begun
-begun unit = pick (leb (length unit) limit) (withHeader unit (headerOf unit)) (Begun.Refused (refusal tooLarge (pos 0) 0))
+begun unit = pick (leb (length unit) limit) (withHeader unit (headerOf unit)) (Begun.Refused (refusal tooLarge (pos 0)))

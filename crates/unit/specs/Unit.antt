@@ -32,7 +32,7 @@ unfoldable pub inBody : (Bits → UnitRead) → List ℕ → ℕ → List ℕ �
 inBody reads unit from scratch =
     pick (leb (length unit) (length scratch))
     (record { read = reads (bytesBits (body 0 (drop from unit))); left = startWith (body 0 (drop from unit)) scratch })
-    (untouched (UnitAnswer.Refused (refusal bufferTooShort (pos (length unit)) 0)) scratch)
+    (untouched (UnitAnswer.Refused (refusal bufferTooShort (pos (length unit)))) scratch)
 
 -- how the bits of a slice's body read, and of a prefix unit's
 unfoldable pub sliceBits : Table → UnitKind → Bits → UnitRead

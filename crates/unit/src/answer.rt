@@ -1,10 +1,10 @@
 // What reading a unit answers, with its records.
 use crate::into::ShortAnswer;
 use bits::refusals::Refusal;
+use lists::list_words::PrefixShort;
 use syntax::marks::MarkedFlag;
 use syntax::record::Prefix;
 use syntax::record::SliceHeader;
-use lists::list_words::PrefixShort;
 ghost use mathlib.Core.Path.{_≡_};
 ghost use Rattle.syntax.specs.Absent.{noPrefix};
 ghost use Rattle.lists.specs.ListsLent.{prefixShort};

@@ -88,7 +88,7 @@ pub fn begin(unit: &[u8]) -> Begun
     ensures { λ r. ⌜ r ≡ begun (now (unit .entry)) ⌝ }
 {
     if LIMIT < unit.len() {
-        return Begun::Refused(refuse(TOO_LARGE, 0, 0));
+        return Begun::Refused(refuse(TOO_LARGE, 0));
     }
     match header_of(unit) {
         NalHeaderRead::Got(h) => typed(unit, h),

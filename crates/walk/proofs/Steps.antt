@@ -23,7 +23,7 @@ use Rattle.walk.specs.Walked.{WalkOut, stepTo, nextStep, nothing, readin
 
 -- where a step comes to, by the search
 module _ (s : List ℕ) (from : ℕ) where
-  pub step-over : limit < length s → Step.Refused (refusal tooLarge (pos 0) 0) ≡ nextStep s from
+  pub step-over : limit < length s → Step.Refused (refusal tooLarge (pos 0)) ≡ nextStep s from
   unfolding nextStep
   step-over h = rw (lt-leb (length s) limit h)
 
@@ -36,7 +36,7 @@ module _ (s : List ℕ) (from : ℕ) where
   unfolding nextStep
   found-at {p} {l} {n} = go (leb (length s) limit) (nextUnit s from)
     where
-      go : (b : Bool) (f : Found) → pick b (stepTo f) (Step.Refused (refusal tooLarge (pos 0) 0)) ≡ Step.Unit p l n → f ≡ Found.At p l n
+      go : (b : Bool) (f : Found) → pick b (stepTo f) (Step.Refused (refusal tooLarge (pos 0))) ≡ Step.Unit p l n → f ≡ Found.At p l n
       go true (Found.At p′ l′ n′) e = cc
       go true Found.End e = let z : _≡_ {A = ℕ} 0 1 = cc in absurd (omega arith)
       go false f e = let z : _≡_ {A = ℕ} 0 1 = cc in absurd (omega arith)
@@ -57,7 +57,7 @@ module _ (t : Table) (s : List ℕ) (from : ℕ) (scratch : List ℕ) where
   by-step = go (leb (length s) limit) (nextUnit s from)
     where
       refused : Step
-      refused = Step.Refused (refusal tooLarge (pos 0) 0)
+      refused = Step.Refused (refusal tooLarge (pos 0))
 
       go : (b : Bool) (f : Found) → pick b (afterSearch t s scratch f) (record { walked = nothing refused; left = scratch }) ≡ byStep t s scratch (pick b (stepTo f) refused)
       go true (Found.At p l n) = refl

@@ -31,7 +31,7 @@ stepTo Found.End = Step.End
 
 -- where the walk comes to: 27 first
 unfoldable pub nextStep : List ℕ → ℕ → Step
-nextStep recording from = pick (leb (length recording) limit) (stepTo (nextUnit recording from)) (Step.Refused (refusal tooLarge (pos 0) 0))
+nextStep recording from = pick (leb (length recording) limit) (stepTo (nextUnit recording from)) (Step.Refused (refusal tooLarge (pos 0)))
 
 -- a step to no unit: nothing is read
 unfoldable pub nothing : Step → Walked
@@ -50,4 +50,4 @@ afterSearch t recording scratch Found.End = record { walked = nothing Step.End; 
 unfoldable pub walked : Table → List ℕ → ℕ → List ℕ → WalkOut
 walked t recording from scratch =
     pick (leb (length recording) limit) (afterSearch t recording scratch (nextUnit recording from))
-    (record { walked = nothing (Step.Refused (refusal tooLarge (pos 0) 0)); left = scratch })
+    (record { walked = nothing (Step.Refused (refusal tooLarge (pos 0))); left = scratch })

@@ -31,7 +31,7 @@ pub fn next_step(recording: &[u8], from: usize) -> Step
     ensures { λ r. ⌜ r ≡ nextStep (now (recording .entry)) from ⌝ }
 {
     if LIMIT < recording.len() {
-        return Step::Refused(refuse(TOO_LARGE, 0, 0));
+        return Step::Refused(refuse(TOO_LARGE, 0));
     }
     match next_unit(recording, from) {
         Found::At {

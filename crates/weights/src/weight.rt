@@ -3,6 +3,7 @@ use bits::read::Cursor;
 use bits::read::ReadFlag;
 use bits::read::why_flag;
 use bits::refusals::Refusal;
+use bits::refusals::no_refusal;
 use fields::read::given_flag;
 use fields::read::given_signed;
 use fields::step::SignedGiven;
@@ -48,10 +49,7 @@ pub fn why_weight(a: WeightStep) -> Refusal
     ensures { λ r. ⌜ r ≡ whyWeight a ⌝ }
 {
     match a {
-        WeightStep::Got(_, _) => Refusal {
-            number: 0,
-            value: 0,
-        },
+        WeightStep::Got(_, _) => no_refusal(),
         WeightStep::Refused(r) => r,
     }
 }
@@ -60,10 +58,7 @@ fn why_luma(a: LumaStep) -> Refusal
     ensures { λ r. ⌜ r ≡ whyLuma a ⌝ }
 {
     match a {
-        LumaStep::Got(_, _) => Refusal {
-            number: 0,
-            value: 0,
-        },
+        LumaStep::Got(_, _) => no_refusal(),
         LumaStep::Refused(r) => r,
     }
 }
@@ -72,10 +67,7 @@ fn why_chroma(a: ChromaStep) -> Refusal
     ensures { λ r. ⌜ r ≡ whyChroma a ⌝ }
 {
     match a {
-        ChromaStep::Got(_, _) => Refusal {
-            number: 0,
-            value: 0,
-        },
+        ChromaStep::Got(_, _) => no_refusal(),
         ChromaStep::Refused(r) => r,
     }
 }

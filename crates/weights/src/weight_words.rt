@@ -1,8 +1,14 @@
 // pred_weight_table( ) with its entries in words that the caller lends: an array by value is copied at each call that passes it on.
+use crate::list::at_most_32;
+use crate::weight::WeightStep;
+use crate::weight::weight;
+use crate::weight::why_weight;
+use crate::weights::count_if;
 use bits::read::Cursor;
 use bits::read::Read;
 use bits::read::why;
 use bits::refusals::Refusal;
+use bits::refusals::no_refusal;
 use fields::conditions::B;
 use fields::conditions::has_chroma;
 use fields::conditions::is_type;
@@ -13,11 +19,6 @@ use fields::step::why_number;
 use syntax::context::Context;
 use syntax::marks::MarkedNumber;
 use syntax::record::Weight;
-use crate::list::at_most_32;
-use crate::weight::WeightStep;
-use crate::weight::weight;
-use crate::weight::why_weight;
-use crate::weights::count_if;
 ghost use mathlib.Core.Path.{_≡_};
 ghost use Prim.Native.Nat.{_*_, _<_};
 ghost use lib.IntN.{pos};
@@ -56,10 +57,7 @@ pub fn why_weights(a: WeightsStep) -> Refusal
     ensures { λ r. ⌜ r ≡ whyWeights a ⌝ }
 {
     match a {
-        WeightsStep::Got(_, _) => Refusal {
-            number: 0,
-            value: 0,
-        },
+        WeightsStep::Got(_, _) => no_refusal(),
         WeightsStep::Refused(r) => r,
     }
 }
@@ -68,10 +66,7 @@ fn why_list(a: ListStep) -> Refusal
     ensures { λ r. ⌜ r ≡ whyList a ⌝ }
 {
     match a {
-        ListStep::Got(_, _) => Refusal {
-            number: 0,
-            value: 0,
-        },
+        ListStep::Got(_, _) => no_refusal(),
         ListStep::Refused(r) => r,
     }
 }

@@ -46,11 +46,11 @@ module _ (t : Table) (k : UnitKind) (h : SliceHeader) (out : List ℕ) where
   abbrev l : Bits
   l = header t k .bits h
 
-  pub out-none : header t k .good h ≡ false → bitsOut true t k h out ≡ untouched (refusal noBits (pos 0) 0) out
+  pub out-none : header t k .good h ≡ false → bitsOut true t k h out ≡ untouched (refusal noBits (pos 0)) out
   unfolding bitsOut written
   out-none g = rw g
 
-  pub out-short : T (header t k .good h) → length (bitsOf out) < length l → bitsOut true t k h out ≡ untouched (refusal bufferTooShort (pos (bytesFor (length l))) 0) out
+  pub out-short : T (header t k .good h) → length (bitsOf out) < length l → bitsOut true t k h out ≡ untouched (refusal bufferTooShort (pos (bytesFor (length l)))) out
   unfolding bitsOut written
   out-short g s = rw (T-true (header t k .good h) g, zero-add (length l), lt-leb (length l) (length (bitsOf out)) s)
 
@@ -59,7 +59,7 @@ module _ (t : Table) (k : UnitKind) (h : SliceHeader) (out : List ℕ) where
   out-bits g s = rw (T-true (header t k .good h) g, zero-add (length l), le-leb (length l) (length (bitsOf out)) s)
 
   -- a good record's answer is not 25
-  pub good-written : T (header t k .good h) → bitsOut true t k h out .answer ≡ HeaderWrote.Refused (refusal noBits (pos 0) 0) → ⊥
+  pub good-written : T (header t k .good h) → bitsOut true t k h out .answer ≡ HeaderWrote.Refused (refusal noBits (pos 0)) → ⊥
   good-written g w =
       cases (leb (length l) (length (bitsOf out)))
       (λ r.
@@ -67,7 +67,7 @@ module _ (t : Table) (k : UnitKind) (h : SliceHeader) (out : List ℕ) where
       no-bits (sym w ∙ e))
       (λ r.
       let e = sym w ∙ ap (λ (o : HeaderOut). o .answer) (out-short g (leb-false (length l) (length (bitsOf out)) r)) in
-      let i : refusal noBits (pos 0) 0 ≡ refusal bufferTooShort (pos (bytesFor (length l))) 0 = (cc e) in
+      let i : refusal noBits (pos 0) ≡ refusal bufferTooShort (pos (bytesFor (length l))) = (cc e) in
       let z : noBits ≡ bufferTooShort = ap (λ (c : Refusal). c .number) i in
       omega (arith, z))
 

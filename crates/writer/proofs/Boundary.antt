@@ -97,7 +97,7 @@ module _ (t : Table) (u scratch : List ℕ) (lent : Lent) (size : Sized (lent .h
   puts-back out room = after-written (firstOf u) (extensionIn u) out ∙ rewrites t u scratch (read .header) e a refl out room
 
   -- and 25 is never given for them
-  pub never-refused : (b : ℕ) (x : ExtensionGiven) (v out : List ℕ) → Starts b x u v → writeWords t b x after out .answer ≡ HeaderWrote.Refused (refusal noBits (pos 0) 0) → ⊥
+  pub never-refused : (b : ℕ) (x : ExtensionGiven) (v out : List ℕ) → Starts b x u v → writeWords t b x after out .answer ≡ HeaderWrote.Refused (refusal noBits (pos 0)) → ⊥
   never-refused b x v out s q =
       let y = slice-read t u scratch a refl in
       let z = syntax.rewrites t (y .kind) _ (read .header) e (y .reads) in

@@ -127,7 +127,7 @@ module _ (x : Context) (w : HeaderWords) where
   known-is out =
       ap (λ (g : Bool). outOf (written g (fields x .bits (ofHeader r)) out 0)) (sym (and-assoc (plain w) _ (fields x .good (ofHeader r))))
 
-  pub known-other : (out : List ℕ) → fitting ≡ false → knownOut x w out ≡ untouched (refusal noBits (pos 0) 0) out
+  pub known-other : (out : List ℕ) → fitting ≡ false → knownOut x w out ≡ untouched (refusal noBits (pos 0)) out
   unfolding written
   known-other out q = known-is out ∙ rw q
 
@@ -155,7 +155,7 @@ module _ (x : Context) (h : SliceHeader) (d : List ℕ) where
 
   -- 25: a part led nowhere, which was not for want of room
   pub fields-nowhere : (out : List ℕ) → length d ≡ 6144 → {d' : List ℕ} (c : Cursor) → nowhere ≤ c .at → PutTo (fields x) (ofHeader h) d 0 d' c
-      → fieldsOut x h out ≡ untouched (refusal noBits (pos 0) 0) out
+      → fieldsOut x h out ≡ untouched (refusal noBits (pos 0)) out
   unfolding fieldsOut written
   fields-nowhere out len c n p =
       cases (fields x .good (ofHeader h))

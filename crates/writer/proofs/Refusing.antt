@@ -1,4 +1,4 @@
--- What a refusal of the writer goes with: the buffer is as it was, and the number is one of those that are checked. And 25, with the checks before it left unsaid.
+-- What a refusal of the writer goes with: the buffer is as it was, the number is one of those that are checked, and it has no place in a body. And 25, with the checks before it left unsaid.
 use Prim.Native.Nat.{ℕ}
 use mathlib.Core.Path.{_≡_, refl, sym, ap, subst, _∙_}
 use mathlib.Core.List.{List, [], _∷_, _++_}
@@ -46,7 +46,7 @@ among (m ∷ ms) n = eqb n m || among ms n
 
 abbrev KindFine : KindGiven → Type 0
 KindFine (KindGiven.Of k) = Unit {0}
-KindFine (KindGiven.Refused r) = T (among (2 ∷ 3 ∷ 4 ∷ 13 ∷ []) (r .number))
+KindFine (KindGiven.Refused r) = T (among (2 ∷ 3 ∷ 4 ∷ 13 ∷ []) (r .number)) × (r .«has_bit» ≡ false)
 
 kind-by : (c : Bool) (a b : KindGiven) → KindFine a → KindFine b → KindFine (pick c a b)
 kind-by true a b f g = f
@@ -54,34 +54,34 @@ kind-by false a b f g = g
 
 extension-fine : (h : NalHeader) (e : NalHeaderExtension) → KindFine (withExtension h e)
 extension-fine h (NalHeaderExtension.Mvc m) = tt
-extension-fine h (NalHeaderExtension.Svc v) = tt
+extension-fine h (NalHeaderExtension.Svc v) = (tt, refl)
 
 typed-fine : (h : NalHeader) (x : ExtensionGiven) → KindFine (typed h x)
 unfolding typed
 typed-fine h x =
-    kind-by (isPlain (typeIn h)) _ _ tt (kind-by (isExtended h) _ _ (kind-by (x .there) _ _ (extension-fine h (extensionFrom (x .b1) (x .b2) (x .b3))) tt) tt)
+    kind-by (isPlain (typeIn h)) _ _ tt (kind-by (isExtended h) _ _ (kind-by (x .there) _ _ (extension-fine h (extensionFrom (x .b1) (x .b2) (x .b3))) (tt, refl)) (tt, refl))
 
 kind-fine : (b : ℕ) (x : ExtensionGiven) → KindFine (kindGiven b x)
 unfolding kindGiven headerFrom
-kind-fine b x = cases (eqb (forbiddenZeroBitOf b) 0) (λ i. rw i (typed-fine (byte b) x)) (λ i. rw i tt)
+kind-fine b x = cases (eqb (forbiddenZeroBitOf b) 0) (λ i. rw i (typed-fine (byte b) x)) (λ i. rw i (tt, refl))
 
 -- ---- the checks on the sets: 8, 9, 10
 
 abbrev SetsFine : SetsFor → Type 0
 SetsFine (SetsFor.There p s) = Unit {0}
-SetsFine (SetsFor.Refused r) = T (among (8 ∷ 9 ∷ 10 ∷ []) (r .number))
+SetsFine (SetsFor.Refused r) = T (among (8 ∷ 9 ∷ 10 ∷ []) (r .number)) × (r .«has_bit» ≡ false)
 
 sequence-fine : (p : Picture) (f : FoundSequence) → SetsFine (withSequence p f)
 sequence-fine p (FoundSequence.There s) = tt
-sequence-fine p FoundSequence.Absent = tt
+sequence-fine p FoundSequence.Absent = (tt, refl)
 
 picture-fine : (t : Table) (id : ℕ) (f : FoundPicture) → SetsFine (withPicture t id f)
 picture-fine t id (FoundPicture.There p) = sequence-fine p (sequenceAt t (p .«seq_parameter_set_id»))
-picture-fine t id FoundPicture.Absent = tt
+picture-fine t id FoundPicture.Absent = (tt, refl)
 
 sets-fine : (t : Table) (id : ℕ) → SetsFine (setsFor t id)
 unfolding setsFor
-sets-fine t id = cases (leb id 255) (λ i. rw i (picture-fine t id (pictureAt t id))) (λ i. rw i tt)
+sets-fine t id = cases (leb id 255) (λ i. rw i (picture-fine t id (pictureAt t id))) (λ i. rw i (tt, refl))
 
 -- ---- the answer
 
@@ -109,7 +109,7 @@ among-right (m ∷ xs) ys n h = go (eqb n m) (among-right xs ys n h)
 -- a refusal leaves the buffer as it was, and has one of the numbers
 abbrev Fine : List ℕ → List ℕ → HeaderWrote → Type 0
 Fine out left (HeaderWrote.Bits n) = Unit {0}
-Fine out left (HeaderWrote.Refused r) = (left ≡ out) × T (among numbers (r .number))
+Fine out left (HeaderWrote.Refused r) = (left ≡ out) × (T (among numbers (r .number)) × (r .«has_bit» ≡ false))
 
 module _ (t : Table) (h : SliceHeader) (out : List ℕ) where
   abbrev OutFine : HeaderOut → Type 0
@@ -123,34 +123,34 @@ module _ (t : Table) (h : SliceHeader) (out : List ℕ) where
       let good : T (header t k .good h) = rw g tt in
       cases (leb (length l) (length (bitsOf out)))
       (λ m. rw (out-bits t k h out good (leb-true (length l) (length (bitsOf out)) m)) tt)
-      (λ m. rw (out-short t k h out good (leb-false (length l) (length (bitsOf out)) m)) (refl, tt)))
-      (λ g. rw (out-none t k h out g) (refl, tt))
+      (λ m. rw (out-short t k h out good (leb-false (length l) (length (bitsOf out)) m)) (refl, (tt, refl))))
+      (λ g. rw (out-none t k h out g) (refl, (tt, refl)))
 
   by-sets : (k : UnitKind) (f : SetsFor) → SetsFine f → OutFine (afterSets true t k h out f)
   by-sets k (SetsFor.There p s) g = bits-fine k
-  by-sets k (SetsFor.Refused r) g = (refl, among-right (2 ∷ 3 ∷ 4 ∷ 13 ∷ []) (8 ∷ 9 ∷ 10 ∷ 25 ∷ 26 ∷ []) (r .number) (among-left (8 ∷ 9 ∷ 10 ∷ []) (25 ∷ 26 ∷ []) (r .number) g))
+  by-sets k (SetsFor.Refused r) g = (refl, (among-right (2 ∷ 3 ∷ 4 ∷ 13 ∷ []) (8 ∷ 9 ∷ 10 ∷ 25 ∷ 26 ∷ []) (r .number) (among-left (8 ∷ 9 ∷ 10 ∷ []) (25 ∷ 26 ∷ []) (r .number) (g .0)), g .1))
 
   by-kind : (f : KindGiven) → KindFine f → OutFine (afterKind true t h out f)
   by-kind (KindGiven.Of k) g = by-sets k (setsFor t (h .«pic_parameter_set_id»)) (sets-fine t (h .«pic_parameter_set_id»))
-  by-kind (KindGiven.Refused r) g = (refl, among-left (2 ∷ 3 ∷ 4 ∷ 13 ∷ []) (8 ∷ 9 ∷ 10 ∷ 25 ∷ 26 ∷ []) (r .number) g)
+  by-kind (KindGiven.Refused r) g = (refl, (among-left (2 ∷ 3 ∷ 4 ∷ 13 ∷ []) (8 ∷ 9 ∷ 10 ∷ 25 ∷ 26 ∷ []) (r .number) (g .0), g .1))
 
 module _ (t : Table) (b : ℕ) (x : ExtensionGiven) (h : SliceHeader) (out : List ℕ) where
   fine : Fine out (writeHeader t b x h out .left) (writeHeader t b x h out .answer)
   unfolding writeWhere
   fine = by-kind t h out (kindGiven b x) (kind-fine b x)
 
-  pub refused-with : {r : Refusal} → writeHeader t b x h out .answer ≡ HeaderWrote.Refused r → (writeHeader t b x h out .left ≡ out) × T (among numbers (r .number))
+  pub refused-with : {r : Refusal} → writeHeader t b x h out .answer ≡ HeaderWrote.Refused r → (writeHeader t b x h out .left ≡ out) × (T (among numbers (r .number)) × (r .«has_bit» ≡ false))
   refused-with e = subst (Fine out (writeHeader t b x h out .left)) e fine
 
 -- ---- 25
 
 abbrev none : HeaderWrote
-none = HeaderWrote.Refused (refusal noBits (pos 0) 0)
+none = HeaderWrote.Refused (refusal noBits (pos 0))
 
 -- a check of others is no 25
 other : {P : Type 0} {r : Refusal} → HeaderWrote.Refused r ≡ none → (ns : List ℕ) → T (among ns (r .number)) → among ns 25 ≡ false → P
 other {r = r} e ns g f =
-    let i : r ≡ refusal noBits (pos 0) 0 = (cc e) in
+    let i : r ≡ refusal noBits (pos 0) = (cc e) in
     absurd (rw f at (rw i at g))
 
 -- ---- units that start as the writer was told
@@ -201,11 +201,11 @@ module _ (t : Table) (b : ℕ) (x : ExtensionGiven) (h : SliceHeader) (out : Lis
     where
       sets : {k : UnitKind} → kindGiven b x ≡ KindGiven.Of k → (f : SetsFor) → setsFor t (h .«pic_parameter_set_id») ≡ f → SetsFine f → ⊥
       sets q (SetsFor.There p z) g i = refused-no-unit t b x h out q (record { picture = p; sequence = z; are = g }) w (unitOf b x v) v scratch e (told-starts b x q v) a r
-      sets q (SetsFor.Refused d) g i = other (sym (by-the-sets q g) ∙ w) (8 ∷ 9 ∷ 10 ∷ []) i refl
+      sets q (SetsFor.Refused d) g i = other (sym (by-the-sets q g) ∙ w) (8 ∷ 9 ∷ 10 ∷ []) (i .0) refl
 
       kind : (f : KindGiven) → kindGiven b x ≡ f → KindFine f → ⊥
       kind (KindGiven.Of k) q i = sets q (setsFor t (h .«pic_parameter_set_id»)) refl (sets-fine t (h .«pic_parameter_set_id»))
-      kind (KindGiven.Refused d) q i = other (sym (by-the-kind q) ∙ w) (2 ∷ 3 ∷ 4 ∷ 13 ∷ []) i refl
+      kind (KindGiven.Refused d) q i = other (sym (by-the-kind q) ∙ w) (2 ∷ 3 ∷ 4 ∷ 13 ∷ []) (i .0) refl
 
   -- and where no bits read to the record, it is given, unless a check before it is
   pub unread-turned : ((k : UnitKind) (s : Bits) (e : ℕ) → readHeader t k s ≡ got h e → ⊥) → Turned (writeHeader t b x h out .answer)
@@ -214,14 +214,14 @@ module _ (t : Table) (b : ℕ) (x : ExtensionGiven) (h : SliceHeader) (out : Lis
       sets : {k : UnitKind} → kindGiven b x ≡ KindGiven.Of k → (f : SetsFor) → setsFor t (h .«pic_parameter_set_id») ≡ f → SetsFine f → Turned (writeHeader t b x h out .answer)
       sets {k} q (SetsFor.There p z) g i =
           let f : Found t (h .«pic_parameter_set_id») = record { picture = p; sequence = z; are = g } in
-          record { why = refusal noBits (pos 0) 0; is = ap (λ (o : HeaderOut). o .answer) (unread-refused t b x h out q f (n k)); number = tt }
+          record { why = refusal noBits (pos 0); is = ap (λ (o : HeaderOut). o .answer) (unread-refused t b x h out q f (n k)); number = tt }
       sets q (SetsFor.Refused d) g i =
           record {
             why = d;
             is = by-the-sets q g;
-            number = among-right (2 ∷ 3 ∷ 4 ∷ 13 ∷ []) (8 ∷ 9 ∷ 10 ∷ 25 ∷ []) (d .number) (among-left (8 ∷ 9 ∷ 10 ∷ []) (25 ∷ []) (d .number) i);
+            number = among-right (2 ∷ 3 ∷ 4 ∷ 13 ∷ []) (8 ∷ 9 ∷ 10 ∷ 25 ∷ []) (d .number) (among-left (8 ∷ 9 ∷ 10 ∷ []) (25 ∷ []) (d .number) (i .0));
           }
 
       kind : (f : KindGiven) → kindGiven b x ≡ f → KindFine f → Turned (writeHeader t b x h out .answer)
       kind (KindGiven.Of k) q i = sets q (setsFor t (h .«pic_parameter_set_id»)) refl (sets-fine t (h .«pic_parameter_set_id»))
-      kind (KindGiven.Refused d) q i = record { why = d; is = by-the-kind q; number = among-left (2 ∷ 3 ∷ 4 ∷ 13 ∷ []) (8 ∷ 9 ∷ 10 ∷ 25 ∷ []) (d .number) i }
+      kind (KindGiven.Refused d) q i = record { why = d; is = by-the-kind q; number = among-left (2 ∷ 3 ∷ 4 ∷ 13 ∷ []) (8 ∷ 9 ∷ 10 ∷ 25 ∷ []) (d .number) (i .0) }

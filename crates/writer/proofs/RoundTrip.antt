@@ -108,7 +108,7 @@ module _ (t : Table) (u scratch : List ℕ) (h : SliceHeader) (e : ℕ) (a : uni
 -- the checks before it are passed
 module _ (t : Table) (b : ℕ) (x : ExtensionGiven) (h : SliceHeader) (out : List ℕ) {k : UnitKind} (q : kindGiven b x ≡ KindGiven.Of k) (f : Found t (h .«pic_parameter_set_id»)) where
   abbrev refused : HeaderWrote
-  refused = HeaderWrote.Refused (refusal noBits (pos 0) 0)
+  refused = HeaderWrote.Refused (refusal noBits (pos 0))
 
   -- where it is given, no bits read to the record
   pub refused-unread : writeHeader t b x h out .answer ≡ refused → (s : Bits) (e : ℕ) → readHeader t k s ≡ got h e → ⊥
@@ -128,5 +128,5 @@ module _ (t : Table) (b : ℕ) (x : ExtensionGiven) (h : SliceHeader) (out : Lis
       refused-unread w _ e (subst (λ (n : UnitKind). readHeader t n (bodyBits (drop (y .from) u)) ≡ got h e) i (y .reads))
 
   -- and where none do, it is given, and the buffer is as it was
-  pub unread-refused : ((s : Bits) (e : ℕ) → readHeader t k s ≡ got h e → ⊥) → writeHeader t b x h out ≡ untouched (refusal noBits (pos 0) 0) out
+  pub unread-refused : ((s : Bits) (e : ℕ) → readHeader t k s ≡ got h e → ⊥) → writeHeader t b x h out ≡ untouched (refusal noBits (pos 0)) out
   unread-refused n = goes-on t b x h out q f ∙ out-none t k h out (syntax.not-good t k h n)

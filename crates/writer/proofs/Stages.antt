@@ -40,7 +40,7 @@ is-at : (c : Cursor) → c .at < nowhere → reached c ≡ At c
 unfolding reached
 is-at c h = rw (lt-ltb (c .at) nowhere h)
 
-is-nowhere : (c : Cursor) → nowhere ≤ c .at → reached c ≡ Refused (refusal noBits (pos 0) 0)
+is-nowhere : (c : Cursor) → nowhere ≤ c .at → reached c ≡ Refused (refusal noBits (pos 0))
 unfolding reached
 is-nowhere c h = rw (le-ltb (c .at) nowhere h)
 
@@ -76,7 +76,7 @@ module _ {A : Type 0} {F : Fmt A} {a : A} {d : List ℕ} {at : ℕ} {d' : List �
       go (no i) = omega arith
 
 pub refused : Refusal
-refused = refusal noBits (pos 0) 0
+refused = refusal noBits (pos 0)
 
 -- a value that has no bits
 pub leads-nowhere : {A : Type 0} (F : Fmt A) (a : A) {d : List ℕ} {at : ℕ} {d' : List ℕ} → F .good a ≡ false → PutTo F a d at d' (record { at = nowhere })

@@ -17,15 +17,15 @@ use Rattle.writer.specs.declared.given.KindGiven.{KindGiven}
 -- 13 where the extension's top bit is set
 abbrev pub withExtension : NalHeader → NalHeaderExtension → KindGiven
 withExtension h (NalHeaderExtension.Mvc m) = KindGiven.Of (kindOf h (NalHeaderExtension.Mvc m))
-withExtension h (NalHeaderExtension.Svc v) = KindGiven.Refused (refusal 13 (pos 0) 0)
+withExtension h (NalHeaderExtension.Svc v) = KindGiven.Refused (refusal 13 (pos 0))
 
 -- types 1 and 5; 3 for others that are not 20 or 21; 4 for these without an extension
 unfoldable pub typed : NalHeader → ExtensionGiven → KindGiven
 typed h x =
     pick (isPlain (typeIn h)) (KindGiven.Of (kindOf h absentExtension))
     (pick (isExtended h)
-    (pick (x .there) (withExtension h (extensionFrom (x .b1) (x .b2) (x .b3))) (KindGiven.Refused (refusal noExtension (pos 0) 0)))
-    (KindGiven.Refused (refusal 3 (pos (typeIn h)) 0)))
+    (pick (x .there) (withExtension h (extensionFrom (x .b1) (x .b2) (x .b3))) (KindGiven.Refused (refusal noExtension (pos 0))))
+    (KindGiven.Refused (refusal 3 (pos (typeIn h)))))
 
 -- 2, passed on, or the first byte
 abbrev pub withHeader : ExtensionGiven → NalHeaderRead → KindGiven

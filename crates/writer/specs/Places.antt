@@ -20,7 +20,7 @@ placeOf (Wrote.Refused r) = record { at = nowhere }
 
 -- what a place says of the parts before it
 unfoldable pub reached : Cursor → Wrote
-reached c = pick (ltb (c .at) nowhere) (Wrote.At c) (Wrote.Refused (refusal noBits (pos 0) 0))
+reached c = pick (ltb (c .at) nowhere) (Wrote.At c) (Wrote.Refused (refusal noBits (pos 0)))
 
 -- writing a value at a place of a buffer, with the place where it ends
 pub record PutTo {A : Type 0} (F : Fmt A) (a : A) (d : List ℕ) (at : ℕ) (d' : List ℕ) (c : Cursor) : Type 0 where

@@ -55,4 +55,4 @@ knownOut x w out = outOf (written (plain w && isKnown x (headerFrom w)) (fields 
 unfoldable pub copied : List ℕ → ℕ → List ℕ → HeaderOut
 copied d n out =
     pick (leb (bytesFor n) (length out)) (record { answer = HeaderWrote.Bits n; left = startWith (take (bytesFor n) d) out })
-    (untouched (refusal bufferTooShort (pos (bytesFor n)) 0) out)
+    (untouched (refusal bufferTooShort (pos (bytesFor n))) out)

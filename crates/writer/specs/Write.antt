@@ -29,14 +29,14 @@ use Rattle.writer.specs.Given.{kindGiven}
 
 abbrev pub withSequence : Picture → FoundSequence → SetsFor
 withSequence p (FoundSequence.There s) = SetsFor.There p s
-withSequence p FoundSequence.Absent = SetsFor.Refused (refusal 10 (pos (p .«seq_parameter_set_id»)) 0)
+withSequence p FoundSequence.Absent = SetsFor.Refused (refusal 10 (pos (p .«seq_parameter_set_id»)))
 
 abbrev pub withPicture : Table → ℕ → FoundPicture → SetsFor
 withPicture t id (FoundPicture.There p) = withSequence p (sequenceAt t (p .«seq_parameter_set_id»))
-withPicture t id FoundPicture.Absent = SetsFor.Refused (refusal 9 (pos id) 0)
+withPicture t id FoundPicture.Absent = SetsFor.Refused (refusal 9 (pos id))
 
 unfoldable pub setsFor : Table → ℕ → SetsFor
-setsFor t id = pick (leb id 255) (withPicture t id (pictureAt t id)) (SetsFor.Refused (refusal 8 (pos id) 0))
+setsFor t id = pick (leb id 255) (withPicture t id (pictureAt t id)) (SetsFor.Refused (refusal 8 (pos id)))
 
 abbrev pub whySets : SetsFor → Refusal
 whySets (SetsFor.There p s) = none

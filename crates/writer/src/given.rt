@@ -3,6 +3,7 @@ use bits::refusals::NO_EXTENSION;
 use bits::refusals::NOT_A_SLICE;
 use bits::refusals::Refusal;
 use bits::refusals::SCALABLE;
+use bits::refusals::no_refusal;
 use bits::refusals::refuse;
 use fields::conditions::either;
 use header::kinds::kind_of;
@@ -34,10 +35,7 @@ pub(crate) fn why_kind(a: KindGiven) -> Refusal
     ensures { λ r. ⌜ r ≡ whyKind a ⌝ }
 {
     match a {
-        KindGiven::Of(_) => Refusal {
-            number: 0,
-            value: 0,
-        },
+        KindGiven::Of(_) => no_refusal(),
         KindGiven::Refused(r) => r,
     }
 }
@@ -47,7 +45,7 @@ fn with_extension(h: NalHeader, e: NalHeaderExtension) -> KindGiven
 {
     match e {
         NalHeaderExtension::Mvc(_) => KindGiven::Of(kind_of(h, e)),
-        NalHeaderExtension::Svc(_) => KindGiven::Refused(refuse(SCALABLE, 0, 0)),
+        NalHeaderExtension::Svc(_) => KindGiven::Refused(refuse(SCALABLE, 0)),
     }
 }
 
@@ -64,10 +62,10 @@ fn typed(h: NalHeader, x: ExtensionGiven) -> KindGiven
         return KindGiven::Of(kind_of(h, absent));
     }
     if !either(t == 20, t == 21) {
-        return KindGiven::Refused(refuse(NOT_A_SLICE, t as i64, 0));
+        return KindGiven::Refused(refuse(NOT_A_SLICE, t as i64));
     }
     if !x.there {
-        return KindGiven::Refused(refuse(NO_EXTENSION, 0, 0));
+        return KindGiven::Refused(refuse(NO_EXTENSION, 0));
     }
     with_extension(h, NalHeaderExtension::from_bytes(x.b1, x.b2, x.b3))
 }

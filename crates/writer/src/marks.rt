@@ -1,11 +1,11 @@
 // Writing a field: as it is, tested, or there only under a condition. Each says which format of syntax/specs it writes. Order and names are those of the
-// crate codes, which reads them.
+// crate fields, which reads them.
 use crate::places::NOWHERE;
 use crate::places::place_of;
 use bits::read::Cursor;
-use fields::read::offset_fits;
 use fields::quant::qp_fits;
 use fields::quant::qs_fits;
+use fields::read::offset_fits;
 use syntax::context::Context;
 use syntax::marks::MarkedFlag;
 use syntax::marks::MarkedNumber;

@@ -3,6 +3,7 @@ use bits::refusals::NO_PICTURE_SET;
 use bits::refusals::NO_SEQUENCE_SET;
 use bits::refusals::PICTURE_SET_ID;
 use bits::refusals::Refusal;
+use bits::refusals::no_refusal;
 use bits::refusals::refuse;
 use table::sets::Picture;
 use table::sets::Sequence;
@@ -24,10 +25,7 @@ pub(crate) fn why_sets(a: SetsFor) -> Refusal
     ensures { λ r. ⌜ r ≡ whySets a ⌝ }
 {
     match a {
-        SetsFor::There(_, _) => Refusal {
-            number: 0,
-            value: 0,
-        },
+        SetsFor::There(_, _) => no_refusal(),
         SetsFor::Refused(r) => r,
     }
 }
@@ -37,15 +35,15 @@ pub(crate) fn sets_for<'a>(sequences: &'a [u32; 224], pictures: &'a [u32; 2048],
     ensures { λ r. ⌜ r ≡ setsFor (tableOf (now (sequences .entry)) (now (pictures .entry))) id ⌝ }
 {
     if 255 < id {
-        return SetsFor::Refused(refuse(PICTURE_SET_ID, id as i64, 0));
+        return SetsFor::Refused(refuse(PICTURE_SET_ID, id as i64));
     }
     let a1 = picture_in(pictures, id);
     let FoundPicture::There(picture) = a1 else {
-        return SetsFor::Refused(refuse(NO_PICTURE_SET, id as i64, 0));
+        return SetsFor::Refused(refuse(NO_PICTURE_SET, id as i64));
     };
     let a2 = sequence_in(sequences, picture.seq_parameter_set_id);
     let FoundSequence::There(sequence) = a2 else {
-        return SetsFor::Refused(refuse(NO_SEQUENCE_SET, picture.seq_parameter_set_id as i64, 0));
+        return SetsFor::Refused(refuse(NO_SEQUENCE_SET, picture.seq_parameter_set_id as i64));
     };
     SetsFor::There(picture, sequence)
 }

@@ -39,7 +39,7 @@ fn copy_out(d: &[u8], n: usize, out: &mut [u8]) -> HeaderWrote
 {
     let m = (n + 7) / 8;
     if out.len() < m {
-        return HeaderWrote::Refused(refuse(BUFFER_TOO_SHORT, m as i64, 0));
+        return HeaderWrote::Refused(refuse(BUFFER_TOO_SHORT, m as i64));
     }
     let mut i: usize = 0;
     while i < m {
@@ -70,7 +70,7 @@ fn write_long(
     if at < NOWHERE {
         return copy_out(&d, at, out);
     }
-    HeaderWrote::Refused(refuse(NO_BITS, 0, 0))
+    HeaderWrote::Refused(refuse(NO_BITS, 0))
 }
 
 // The header's fields, into a short buffer first, since to clear a long one costs more than to write most headers. What leads nowhere there is tried again.
@@ -115,7 +115,7 @@ fn write_known(
 {
     let same = numbers[3] == x.picture.seq_parameter_set_id;
     if !both(is_plain(numbers, w0, w1), same) {
-        return HeaderWrote::Refused(refuse(NO_BITS, 0, 0));
+        return HeaderWrote::Refused(refuse(NO_BITS, 0));
     }
     write_fields(x, numbers, signed, l0, l1, marking, w0, w1, out)
 }

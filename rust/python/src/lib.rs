@@ -25,11 +25,13 @@ struct Report {
     nal_unit_type: Option<u8>,
     #[pyo3(get)]
     nal_ref_idc: Option<u8>,
-    /// The number of a refusal, its value, and why in words.
+    /// The number of a refusal, its value, the bit of the unescaped body where the refused field begins, if it arises there, and why in words.
     #[pyo3(get)]
     refusal: Option<u32>,
     #[pyo3(get)]
     value: Option<i64>,
+    #[pyo3(get)]
+    bit: Option<usize>,
     #[pyo3(get)]
     why: Option<String>,
     #[pyo3(get)]
@@ -64,7 +66,10 @@ impl Report {
         } = self;
         let more = match (self.qp, self.refusal) {
             (Some(qp), _) => format!(" qp={qp}"),
-            (_, Some(number)) => format!(" refusal={number}"),
+            (_, Some(number)) => {
+                let bit = self.bit.map_or(String::new(), |bit| format!(" bit={bit}"));
+                format!(" refusal={number}{bit}")
+            }
             _ => String::new(),
         };
         format!("<tuzmarghil.Report place={place} length={length} {answer}{more}>")
@@ -115,6 +120,7 @@ fn report(table: &Table, r: &StreamReport<'_>) -> Report {
             answer: "refused",
             refusal: Some(refusal.number),
             value: Some(refusal.value),
+            bit: refusal.bit,
             why: Some(refusal.reason()),
             ..plain
         },

@@ -36,15 +36,19 @@ pub trait Form {
     fn refusal(&mut self, why: Refusal) {
         self.field("refusal", Value::Number(why.number.into()));
         self.field("value", Value::Number(why.value));
+        if let Some(bit) = why.bit {
+            self.field("bit", Value::Number(bit as i64));
+        }
         self.field("why", Value::Why(why));
     }
 }
 
 /// Every name that a field can have, in reading order.
-pub const NAMES: [&str; 63] = [
+pub const NAMES: [&str; 64] = [
     "type",
     "refusal",
     "value",
+    "bit",
     "why",
     "nal_ref_idc",
     "nal_unit_type",
@@ -108,10 +112,11 @@ pub const NAMES: [&str; 63] = [
 ];
 
 /// Those of `tuz list`.
-pub const LIST: [&str; 9] = [
+pub const LIST: [&str; 10] = [
     "type",
     "refusal",
     "value",
+    "bit",
     "why",
     "ext",
     "slice_type",
@@ -121,9 +126,10 @@ pub const LIST: [&str; 9] = [
 ];
 
 /// Those of `tuz qp`.
-pub const QP: [&str; 7] = [
+pub const QP: [&str; 8] = [
     "refusal",
     "value",
+    "bit",
     "why",
     "slice_type",
     "family",
@@ -219,7 +225,7 @@ impl<F: Form> Fields<'_, F> {
 
     fn refused(&mut self, out: &ReadOut) {
         self.0.kind("refused");
-        self.0.refusal(Refusal::new(out.number, out.value));
+        self.0.refusal(out.refusal());
     }
 
     fn number(&mut self, name: &'static str, n: impl Into<i64>) {
@@ -583,7 +589,10 @@ mod tests {
             there: true,
             value: true,
         };
-        let mut out = ReadOut::default();
+        let mut out = ReadOut {
+            has_bit: true,
+            ..ReadOut::default()
+        };
         out.prefix.store_ref_base_pic_flag = flag;
         out.prefix.additional_prefix_nal_unit_extension_flag = flag;
 

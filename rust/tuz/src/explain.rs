@@ -158,6 +158,18 @@ const REFUSALS: [Refused; 27] = [
     ),
 ];
 
+/// What the bit place beside a unit's refusal is.
+fn place(number: u32) -> &'static str {
+    match number {
+        9 | 10 => "where pic_parameter_set_id begins",
+        13 => "where list modification would begin",
+        14 => "where the 67th code begins",
+        22 => "where the header ends",
+        5..=23 => "where the field begins",
+        _ => "none",
+    }
+}
+
 /// All of them, or the one that is asked for.
 pub fn told(number: Option<u32>) -> Result<String> {
     let mut told = String::new();
@@ -170,7 +182,11 @@ pub fn told(number: Option<u32>) -> Result<String> {
         Some(number) => match REFUSALS.iter().find(|r| r.0 == number) {
             None => bail!("{number} is no refusal: they are 1 to {}", REFUSALS.len()),
             Some(Refused(n, why, value, often)) => {
-                let _ = write!(told, "refused {n}: {why}\nvalue: {value}\noften: {often}\n");
+                let bit = place(*n);
+                let _ = write!(
+                    told,
+                    "refused {n}: {why}\nvalue: {value}\nbit: {bit}\noften: {often}\n"
+                );
             }
         },
     }

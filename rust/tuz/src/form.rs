@@ -45,6 +45,9 @@ impl Form for Text<'_> {
         self.to.push(b' ');
         number(self.to, why.number.into());
         self.field("value", Value::Number(why.value));
+        if let Some(bit) = why.bit {
+            self.field("bit", Value::Number(bit as i64));
+        }
         if self.why {
             self.to.extend_from_slice(b": ");
             Value::Why(why).text(self.to);

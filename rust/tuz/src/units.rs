@@ -10,7 +10,7 @@ use crate::Ending;
 use anyhow::Result;
 use std::path::Path;
 use tuzmarghil::raw::{self, ReadOut};
-use tuzmarghil::{Refusal, StreamReport, Table};
+use tuzmarghil::{StreamReport, Table};
 
 /// Which command it is.
 #[derive(Clone, Copy, PartialEq, Eq)]
@@ -170,9 +170,9 @@ impl Units<'_> {
         self.line.extend_from_slice(text);
         if self.terminal && read.answer == 3 {
             self.line.pop();
-            let why = Refusal::new(read.number, read.value);
             self.line.extend_from_slice(b": ");
-            self.line.extend_from_slice(why.reason().as_bytes());
+            let why = read.refusal().reason();
+            self.line.extend_from_slice(why.as_bytes());
             self.line.push(b'\n');
         }
     }

@@ -29,7 +29,7 @@ fn the_listing_of_document_01() {
 
     let done = tuz(&["list", clip, "--strict"], &[]);
     assert_eq!(done.status.code(), Some(1));
-    assert!(out(&done).starts_with("unit place=4 length=4 refused 9 value=0\n"));
+    assert!(out(&done).starts_with("unit place=4 length=4 refused 9 value=0 bit=8\n"));
 }
 
 #[test]
@@ -37,7 +37,7 @@ fn every_field_in_three_formats() {
     let line = "slice nal_ref_idc=3 nal_unit_type=5 first_mb_in_slice=0 slice_type=7 pic_parameter_set_id=0 seq_parameter_set_id=0 frame_num=0 idr_pic_id=0 no_output_of_prior_pics_flag=0 long_term_reference_flag=0 slice_qp_delta=0 bits=17\n";
     let case = format!("# a comment\n\n{SETS} 658884A0\n{SETS} -\n658884a0\n");
     let done = tuz(&["cases", "-"], case.as_bytes());
-    let rest = "refused 1 value=0\nrefused 9 value=0\n";
+    let rest = "refused 1 value=0\nrefused 9 value=0 bit=8\n";
     assert_eq!(out(&done), format!("{line}{rest}"));
 
     // with the type's letter and the final QP
@@ -632,7 +632,7 @@ fn the_demo() {
 
 #[test]
 fn qp_with_totals_and_plot() {
-    let torn = [&CLIP[..], &[0, 0, 1, 0xE5], &CLIP[..]].concat();
+    let torn = [&CLIP[..], &[0, 0, 1, 0xE5], &[0, 0, 1, 0x65, 0x81], &CLIP].concat();
     let svg = PathBuf::from(env!("CARGO_TARGET_TMPDIR")).join("qp.svg");
     let csv = PathBuf::from(env!("CARGO_TARGET_TMPDIR")).join("qp.csv");
     let (plot, table) = (svg.to_str().unwrap(), csv.to_str().unwrap());
@@ -643,24 +643,26 @@ fn qp_with_totals_and_plot() {
         "\
 unit place=4 length=4 slice type=7 family=I frame=0 qp=26
 unit place=16 length=1 refused 2 value=0
-unit place=21 length=4 slice type=7 family=I frame=0 qp=26
+unit place=20 length=2 refused 5 value=0 bit=1
+unit place=26 length=4 slice type=7 family=I frame=0 qp=26
 total family=I slices=2 least=26 mean=26.00 greatest=26
 total family=all slices=2 least=26 mean=26.00 greatest=26
-total refused=1
+total refused=2
 "
     );
     let rows = "\
-place,length,answer,refusal,value,why,slice_type,family,frame_num,qp
-4,4,slice,,,,7,I,0,26
-16,1,refused,2,0,the top bit of the unit's first byte is set,,,,
-21,4,slice,,,,7,I,0,26
+place,length,answer,refusal,value,bit,why,slice_type,family,frame_num,qp
+4,4,slice,,,,,7,I,0,26
+16,1,refused,2,0,,the top bit of the unit's first byte is set,,,,
+20,2,refused,5,0,1,the bits ran out inside a field,,,,
+26,4,slice,,,,,7,I,0,26
 ";
     assert_eq!(fs::read_to_string(&csv).unwrap(), rows);
     let svg = fs::read_to_string(&svg).unwrap();
-    assert!(svg.starts_with("<svg") && svg.contains("refused 1 (2: 1)"));
+    assert!(svg.starts_with("<svg") && svg.contains("refused 2 (2: 1, 5: 1)"));
 
     // the same on standard output, which then holds nothing else
-    let totals = "total family=I slices=2 least=26 mean=26.00 greatest=26\ntotal family=all slices=2 least=26 mean=26.00 greatest=26\ntotal refused=1\n";
+    let totals = "total family=I slices=2 least=26 mean=26.00 greatest=26\ntotal family=all slices=2 least=26 mean=26.00 greatest=26\ntotal refused=2\n";
     for words in [&["--csv", "-"][..], &["--format", "csv"]] {
         let done = tuz(&[&["qp", "-", "--sample"], words].concat(), &torn);
         assert_eq!(out(&done), rows);

@@ -63,6 +63,8 @@ fn one_schema() {
 fn refusals_in_words() {
     let units = json(&["list", "-", "--sample", "-q"]);
     assert_eq!(units[4]["why"], "the bits ran out inside a field");
+    assert_eq!(units[4]["bit"], 8);
+    assert!(!units[3].contains_key("bit"));
     let clip = file("words.264", &mixed());
     let line = format!(
         "{} list {} --sample -q",
@@ -75,6 +77,8 @@ fn refusals_in_words() {
         .unwrap();
     let told = out(&terminal).replace("\r\n", "\n");
     assert!(told.contains("\nunit place=25 length=1 refused 2 value=0: the top bit of the unit's first byte is set\n"), "{told}");
+    let bits = " refused 5 value=0 bit=8: the bits ran out inside a field\n";
+    assert!(told.contains(bits), "{told}");
     let plain = out(&tuz(&["list", word(&clip), "--sample", "-q"], &[]));
     let cut = |line: &str| line.split(": ").next().unwrap().to_owned();
     let cut: Vec<_> = told.lines().map(cut).collect();
@@ -85,6 +89,18 @@ fn refusals_in_words() {
 fn a_refusal_is_explained() {
     let done = tuz(&["explain", "12"], &[]);
     assert!(out(&done).starts_with("refused 12: modification_of_pic_nums_idc is over 5"));
+    for (number, place) in [
+        ("4", "none"),
+        ("5", "where the field begins"),
+        ("10", "where pic_parameter_set_id begins"),
+        ("13", "where list modification would begin"),
+        ("14", "where the 67th code begins"),
+        ("22", "where the header ends"),
+        ("24", "none"),
+    ] {
+        let told = out(&tuz(&["explain", number], &[]));
+        assert!(told.contains(&format!("\nbit: {place}\n")), "{told}");
+    }
     assert_eq!(out(&tuz(&["explain"], &[])).lines().count(), 27);
     let done = tuz(&["explain", "28"], &[]);
     assert_eq!(

@@ -6,6 +6,7 @@ use common::*;
 use std::fs::{self, File};
 use std::io::{BufRead, BufReader, Write};
 use std::os::unix::fs::{symlink, PermissionsExt};
+use std::os::unix::process::CommandExt;
 use std::path::PathBuf;
 use std::process::{Child, Command, Output, Stdio};
 
@@ -85,7 +86,7 @@ fn a_file_takes_its_place() {
     );
     assert_eq!((err(&done).as_str(), done.status.code()), ("", Some(0)));
     let rows = fs::read_to_string(here.join("old.csv")).unwrap();
-    assert_eq!(rows.lines().last().unwrap(), "4,4,slice,,,,7,I,0,26");
+    assert_eq!(rows.lines().last().unwrap(), "4,4,slice,,,,,7,I,0,26");
     let mode = fs::metadata(here.join("old.csv")).unwrap().permissions();
     assert_eq!(mode.mode() & 0o777, 0o640);
     assert!(fs::symlink_metadata(here.join("link"))
@@ -171,10 +172,20 @@ fn outputs_are_opened_first() {
     }
 }
 
-/// The command, with its standard input open and its standard output at hand.
+/// The command, with its standard input open and its standard output at hand. It is started as by a terminal: the test may run under `nohup` or behind a `&`, where
+/// signals are ignored, and the command keeps to that.
 fn live(words: &[&str]) -> Child {
     let mut command = Command::new(env!("CARGO_BIN_EXE_tuz"));
     let piped = command.args(words).stdin(Stdio::piped());
+    // SAFETY: between fork and exec only `signal` is called, which is safe there.
+    unsafe {
+        piped.pre_exec(|| {
+            for signal in [libc::SIGINT, libc::SIGTERM, libc::SIGHUP] {
+                libc::signal(signal, libc::SIG_DFL);
+            }
+            Ok(())
+        });
+    }
     piped
         .stdout(Stdio::piped())
         .stderr(Stdio::piped())

@@ -28,10 +28,10 @@
 //! assert_eq!(slice.header.frame_num, 0);
 //! assert_eq!(slice.qp(&table), Some(30));
 //!
-//! // a torn unit is refused, with the rules' number and a reason to read
+//! // a torn unit is refused, with the rules' number, the bit of the body where the refused field begins, and a reason to read
 //! let torn = read_unit(&table, &[0x65, 0x88], &mut scratch).unwrap_err();
-//! assert_eq!((torn.number, torn.value), (5, 0));
-//! assert_eq!(torn.to_string(), "refused 5: the bits ran out inside a field");
+//! assert_eq!((torn.number, torn.value, torn.bit), (5, 0, Some(8)));
+//! assert_eq!(torn.to_string(), "refused 5 at bit 8: the bits ran out inside a field");
 //! # Ok::<(), tuzmarghil::Refusal>(())
 //! ```
 #![warn(missing_docs)]

@@ -3,6 +3,7 @@
 //! The structs are taken from the Rattle sources by build.rs: nothing is declared twice. What is absent is zero, with its mark `there` clear.
 #![allow(missing_docs)]
 
+use crate::Refusal;
 use std::sync::atomic::{AtomicBool, Ordering::Relaxed};
 
 pub use crate::words::{List, ListWords, NumberWords, SignedWords, WeightWords, Weights, Words};
@@ -28,6 +29,8 @@ extern "C" {
         answer: u32,
         number: u8,
         value: i64,
+        has_bit: bool,
+        bit: usize,
         numbers: *const NumberWords,
         signed: *const SignedWords,
     ) -> usize;
@@ -116,6 +119,16 @@ macro_rules! plain {
 
 plain!(Table Sequence Picture SequenceOut PictureOut HeaderShort ReadOut WalkOut WroteOut ExtensionOut);
 
+impl ReadOut {
+    /// The refusal, where that is the answer.
+    pub fn refusal(&self) -> Refusal {
+        Refusal {
+            bit: self.has_bit.then_some(self.bit),
+            ..Refusal::new(self.number, self.value)
+        }
+    }
+}
+
 /// A line of a listing.
 pub type Line = [u8; 128];
 
@@ -186,9 +199,14 @@ pub fn unit_line<'a>(
     asked();
     let (u, un) = (unit.as_ptr(), unit.len());
     let (answer, number, value) = (out.answer, out.number as u8, out.value);
+    let (has_bit, bit) = (out.has_bit, out.bit);
     let (p, n, s) = (&table.pictures, &words.numbers, &words.signed);
     // SAFETY: the pointer and the length are those of a live slice, the arrays live through the call, and it requires nothing.
-    let end = unsafe { tuz_unit_line(line, p, place, length, u, un, answer, number, value, n, s) };
+    let end = unsafe {
+        tuz_unit_line(
+            line, p, place, length, u, un, answer, number, value, has_bit, bit, n, s,
+        )
+    };
     &line[..end]
 }
 

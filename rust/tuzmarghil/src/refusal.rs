@@ -2,7 +2,7 @@
 
 use std::fmt;
 
-/// A refusal: the rules' number, and its value.
+/// A refusal: the rules' number, its value, and where in the body it arises.
 #[derive(Clone, Copy, Debug, PartialEq, Eq)]
 #[cfg_attr(feature = "serde", derive(serde::Serialize))]
 #[non_exhaustive]
@@ -11,12 +11,27 @@ pub struct Refusal {
     pub number: u32,
     /// The value that goes with the number: the field's content, a set's id, the bytes needed, or 0.
     pub value: i64,
+    /// Where the refused field begins: its first bit in the unescaped body, counted from 0. A refusal that does not arise while a body is read has none.
+    pub bit: Option<usize>,
 }
 
 impl Refusal {
-    /// A refusal with the rules' number and value.
+    /// A refusal with the rules' number and value, and no place.
     pub fn new(number: u32, value: i64) -> Refusal {
-        Refusal { number, value }
+        Refusal {
+            number,
+            value,
+            bit: None,
+        }
+    }
+
+    /// A refusal with the rules' number and value, of the field that begins at a bit.
+    pub fn at(number: u32, value: i64, bit: usize) -> Refusal {
+        Refusal {
+            number,
+            value,
+            bit: Some(bit),
+        }
     }
 
     /// Why, in words.
@@ -27,7 +42,11 @@ impl Refusal {
 
 impl fmt::Display for Refusal {
     fn fmt(&self, f: &mut fmt::Formatter<'_>) -> fmt::Result {
-        write!(f, "refused {}: {}", self.number, Reason(self))
+        write!(f, "refused {}", self.number)?;
+        if let Some(bit) = self.bit {
+            write!(f, " at bit {bit}")?;
+        }
+        write!(f, ": {}", Reason(self))
     }
 }
 

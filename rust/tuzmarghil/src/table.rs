@@ -169,9 +169,6 @@ impl Table {
 fn changed(answer: raw::ChangedOut) -> Result<(), Refusal> {
     match answer.number {
         0 => Ok(()),
-        number => Err(Refusal {
-            number,
-            value: answer.value,
-        }),
+        number => Err(Refusal::new(number, answer.value)),
     }
 }

@@ -74,7 +74,7 @@ impl Slice {
 ///
 /// // a slice whose picture set is not in the table
 /// let refusal = read_unit(&Table::new(), &[0x65, 0x88, 0x84, 0xA0], &mut scratch).unwrap_err();
-/// assert_eq!(refusal.to_string(), "refused 9: picture parameter set 0 is not in the table");
+/// assert_eq!(refusal.to_string(), "refused 9 at bit 8: picture parameter set 0 is not in the table");
 /// # Ok::<(), tuzmarghil::Refusal>(())
 /// ```
 pub fn read_unit(table: &Table, unit: &[u8], scratch: &mut Vec<u8>) -> Result<Unit, Refusal> {
@@ -163,10 +163,7 @@ impl<'a> Reading<'a> {
                 &out.prefix,
                 words,
             ))),
-            _ => Err(Refusal {
-                number: out.number,
-                value: out.value,
-            }),
+            _ => Err(out.refusal()),
         }
     }
 

@@ -32,10 +32,7 @@ pub struct Report {
 /// ```
 pub fn reports<'a>(table: &'a Table, recording: &'a [u8]) -> Result<Reports<'a>, Refusal> {
     if recording.len() > LIMIT {
-        return Err(Refusal {
-            number: 27,
-            value: 0,
-        });
+        return Err(Refusal::new(27, 0));
     }
     Ok(Reports {
         table,

@@ -44,9 +44,6 @@ pub fn write_header(
     let answer = raw::write_header(table.as_raw(), first.into(), given, &words, out);
     match answer.number {
         0 => Ok(answer.bits),
-        number => Err(Refusal {
-            number,
-            value: answer.value,
-        }),
+        number => Err(Refusal::new(number, answer.value)),
     }
 }

@@ -503,7 +503,9 @@ fn refusals_keep_their_order() {
         let first = NalHeader::new(first).unwrap();
         let answer = write_header(table, first, extension, header, &mut out);
         assert!(out.iter().all(|b| *b == 0xA5));
-        answer.unwrap_err().number
+        let refusal = answer.unwrap_err();
+        assert_eq!(refusal.bit, None);
+        refusal.number
     };
     for header in [&long, &short_chroma, &no_denominator, &one_of_two] {
         let mvc = slice.extension;
@@ -522,6 +524,96 @@ fn refusals_keep_their_order() {
         assert_eq!(number(&alone, 0x74, mvc, header), 10);
         assert_eq!(number(&table, 0x74, mvc, header), 25);
     }
+}
+
+/// A refusal that arises in a body has the bit where the refused field begins, by every way of reading; one that comes before has none.
+#[test]
+fn the_place_of_a_refusal() {
+    let (empty, sample) = (Table::new(), Table::sample());
+    let mut alone = Table::new();
+    alone.put_picture(0, Picture::default()).unwrap();
+    // a list of 67: the code of its last entry begins behind 66 entries of two bits
+    let long = [&[0x01, 0xFE][..], &[0xFF; 17]].concat();
+    let cases: [(&Table, &[u8], Refusal); 15] = [
+        (&sample, &[], Refusal::new(1, 0)),
+        (&sample, &[0xE5, 0x88], Refusal::new(2, 0)),
+        (&sample, &[0x74, 0x40, 1], Refusal::new(4, 0)),
+        (&sample, &[0x65], Refusal::at(5, 0, 0)),
+        (&sample, &[0x65, 0x88], Refusal::at(5, 0, 8)),
+        // the code's zeros and its one are there, and what follows them is not
+        (&sample, &[0x65, 0x81], Refusal::at(5, 0, 1)),
+        (
+            &sample,
+            &[1, 0x80, 0, 0, 3, 0, 0, 3, 0, 9],
+            Refusal::at(6, 0, 1),
+        ),
+        (&sample, &[0x01, 0x8B, 0xFF], Refusal::at(7, 10, 1)),
+        (&empty, &[0x65, 0x88, 0x84, 0xA0], Refusal::at(9, 0, 8)),
+        (&alone, &[0x65, 0x88, 0x84, 0xA0], Refusal::at(10, 0, 8)),
+        (
+            &sample,
+            &[0x74, 0x80, 0, 0, 0x88, 0x82],
+            Refusal::at(13, 0, 13),
+        ),
+        (&sample, &long, Refusal::at(14, 0, 141)),
+        (&sample, &[0x65, 0x88, 0x84, 0x80], Refusal::at(22, 0, 17)),
+        (&sample, &[0x6E, 0x80, 0, 7, 0x90], Refusal::at(23, 3, 1)),
+        (&sample, &[0x6E, 0x80, 0, 7], Refusal::at(5, 0, 0)),
+    ];
+    for (table, unit, refusal) in cases {
+        let refused = Err(refusal);
+        assert_eq!(read_unit(table, unit, &mut Vec::new()), refused);
+        assert_eq!(UnitReader::default().read(table, unit).unit(), refused);
+        let recording = [&[0, 0, 1], unit].concat();
+        let found: Vec<_> = reports(table, &recording).unwrap().collect();
+        assert_eq!(found[0].unit, refused);
+        let mut stream = Stream::new(&recording[..]);
+        let report = stream.next(table).unwrap().unwrap();
+        assert_eq!(report.unit(), refused);
+
+        // the listing tells it, and so does the refusal's own text
+        let (read, words) = report.raw();
+        let mut line = [0; 128];
+        let line = raw::unit_line(&mut line, table.as_raw(), 3, unit.len(), unit, read, words);
+        let (number, value) = (refusal.number, refusal.value);
+        let bit = refusal.bit.map_or(String::new(), |b| format!(" bit={b}"));
+        let told = format!("refused {number} value={value}{bit}\n");
+        let place = format!("unit place=3 length={} ", unit.len());
+        assert_eq!(String::from_utf8_lossy(line), place + &told);
+        let bit = refusal
+            .bit
+            .map_or(String::new(), |b| format!(" at bit {b}"));
+        let text = format!("refused {number}{bit}: {}", refusal.reason());
+        assert_eq!(refusal.to_string(), text);
+    }
+
+    // scratch is too short: the body is not read
+    let (mut words, mut out) = (raw::Words::default(), raw::ReadOut::default());
+    let unit = [0x65, 0x88, 0x84, 0xA0];
+    raw::read_unit(sample.as_raw(), &unit, &mut [0; 3], &mut words, &mut out);
+    assert_eq!((out.answer, out.refusal()), (3, Refusal::new(26, 4)));
+}
+
+/// The longest line that there can be, of whatever numbers, ends in its buffer.
+#[test]
+fn the_longest_line() {
+    let (table, words) = (Table::new(), raw::Words::default());
+    let out = raw::ReadOut {
+        answer: 3,
+        number: 255,
+        value: i64::MIN,
+        has_bit: true,
+        bit: usize::MAX,
+        ..raw::ReadOut::default()
+    };
+    let (mut line, most) = ([0; 128], usize::MAX);
+    let line = raw::unit_line(&mut line, table.as_raw(), most, most, &[], &out, &words);
+    let told = format!(
+        "unit place={most} length={most} refused 255 value={} bit={most}\n",
+        i64::MIN
+    );
+    assert_eq!(String::from_utf8_lossy(line), told);
+    assert_eq!(told.len(), 124);
 }
 
 /// Words with a mark or a flag over 1, or a count over its list's capacity, are those of no header; words behind a count are not looked at.
@@ -583,7 +675,7 @@ fn what_a_unit_starts_with() {
                 let fields = (header.nal_ref_idc(), header.nal_unit_type().id());
                 assert_eq!((id < 128, fields), (true, (id >> 5, id & 31)));
             }
-            Err(refusal) => assert_eq!((id > 127, refusal.number, refusal.value), (true, 2, 0)),
+            Err(refusal) => assert_eq!((id > 127, refusal), (true, Refusal::new(2, 0))),
         }
     }
     for shift in 0..24 {

@@ -15,6 +15,8 @@ fn a_unit_as_json() {
     assert_eq!(slice["bits"], 17);
     assert_eq!(json(&[0x09, 0xF0])["Ok"]["Other"], 9);
     assert_eq!(json(&[0x65])["Err"]["number"], 5);
+    assert_eq!(json(&[0x65, 0x88])["Err"]["bit"], 8);
+    assert!(json(&[])["Err"]["bit"].is_null());
     let prefix = json(&[0x6E, 0x80, 0, 7, 0xA3, 0x40]);
     let prefix = &prefix["Ok"]["Prefix"];
     assert_eq!(prefix["header_extension"]["Svc"]["output_flag"], true);

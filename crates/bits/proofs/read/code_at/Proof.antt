@@ -9,34 +9,10 @@ use borrow.Author.Needs.{needs}
 use Rattle.bits.proofs.read.code_at.Statement.{statement}
 use Rattle.bits.proofs.read.code_at.Tie as tie
 
-mul-end : tie.Need-mul-end
-mul-end c = search needs
-
-refuse-requires : tie.Need-refuse-requires
-refuse-requires c κs = search needs
-
 returns : tie.Need-returns
 returns c =
     let a = c .before .before .before .args in
-    rw (c .refuse .ensures) (sym (ue-past (a .s .now) (a .at) (omega arith)))
-
-long-window-requires : tie.Need-long-window-requires
-long-window-requires c κs = search needs
-
-cast-z : tie.Need-cast-z
-cast-z c = search needs
-
-cast-size : tie.Need-cast-size
-cast-size c = search needs
-
-mul-size : tie.Need-mul-size
-mul-size c = search needs
-
-add-size : tie.Need-add-size
-add-size c = search needs
-
-refuse-requires-2 : tie.Need-refuse-requires-2
-refuse-requires-2 c κs = search needs
+    rw (c .refuse-at .ensures) (sym (ue-past (a .s .now) (a .at) (omega arith)))
 
 -- the window's leading zeros are the zeros at the place
 counted : (c : tie.After-long-window) → let a = c .before .before .before .args in zerosAt (a .s .now) (a .at) 32 ≡ leadingZeros 32 (c .long-window .result / 2 ^ 32)
@@ -45,24 +21,15 @@ counted c = rw (c .long-window .ensures 32 (omega arith)) (zeros-leading _ _ 32)
 returns-2 : tie.Need-returns-2
 returns-2 c =
     let a = c .before .before .before .before .before .before .args in
-    rw (c .refuse2 .ensures) (sym (ue-short (a .s .now) (a .at) _ (counted (c .before .before .before)) (omega arith) (omega arith)))
+    rw (c .refuse-at2 .ensures) (sym (ue-short (a .s .now) (a .at) _ (counted (c .before .before .before)) (omega arith) (omega arith)))
 
 value-at-requires : tie.Need-value-at-requires
 value-at-requires c κs = (omega arith, omega arith, counted (c .before .before), c .before .before .long-window .ensures)
 
-add-t14 : tie.Need-add-t14
-add-t14 c = search needs
-
-refuse-requires-3 : tie.Need-refuse-requires-3
-refuse-requires-3 c κs = search needs
-
 returns-3 : tie.Need-returns-3
 returns-3 c =
     let a = c .before .before .before .before .before .before .args in
-    rw (c .refuse3 .ensures) (sym (ue-end (a .s .now) (a .at) _ (counted (c .before .before .before)) (omega arith) (omega arith) (omega arith)))
-
-refuse-requires-4 : tie.Need-refuse-requires-4
-refuse-requires-4 c κs = search needs
+    rw (c .refuse-at3 .ensures) (sym (ue-end (a .s .now) (a .at) _ (counted (c .before .before .before)) (omega arith) (omega arith) (omega arith)))
 
 returns-4 : tie.Need-returns-4
 returns-4 c =
@@ -72,26 +39,26 @@ returns-4 c =
 returns-5 : tie.Need-returns-5
 returns-5 c =
     let a = c .before .before .before .before .before .before .args in
-    rw (c .refuse4 .ensures) (sym (ue-zeros (a .s .now) (a .at) _ (counted (c .before .before .before)) (omega arith) (omega arith)))
+    rw (c .refuse-at4 .ensures) (sym (ue-zeros (a .s .now) (a .at) _ (counted (c .before .before .before)) (omega arith) (omega arith)))
 
 pub code-at-spec : {M : Type 1} → statement M
 code-at-spec =
     tie.close
     (tie.spec
-    mul-end
-    refuse-requires
+    (λ c. search needs)
+    (λ c κs. search needs)
     returns
-    long-window-requires
-    cast-z
-    cast-size
-    mul-size
-    add-size
-    refuse-requires-2
+    (λ c κs. search needs)
+    (λ c. search needs)
+    (λ c. search needs)
+    (λ c. search needs)
+    (λ c. search needs)
+    (λ c κs. search needs)
     returns-2
     value-at-requires
-    add-t14
-    refuse-requires-3
+    (λ c. search needs)
+    (λ c κs. search needs)
     returns-3
-    refuse-requires-4
+    (λ c κs. search needs)
     returns-4
     returns-5)

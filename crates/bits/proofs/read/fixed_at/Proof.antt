@@ -12,21 +12,21 @@ use Rattle.bits.proofs.read.fixed_at.Tie as tie
 mul-end : tie.Need-mul-end
 mul-end c = search needs
 
-refuse-requires : tie.Need-refuse-requires
-refuse-requires c κs = search needs
+refuse-at-requires : tie.Need-refuse-at-requires
+refuse-at-requires c κs = search needs
 
 returns : tie.Need-returns
 returns c =
     let a = c .before .before .before .args in
-    rw (c .refuse .ensures) (sym (fixed-out (a .s .now) (a .at) (a .n) (omega arith)))
+    rw (c .refuse-at .ensures) (sym (fixed-out (a .s .now) (a .at) (a .n) (omega arith)))
 
-refuse-requires-2 : tie.Need-refuse-requires-2
-refuse-requires-2 c κs = search needs
+refuse-at-requires-2 : tie.Need-refuse-at-requires-2
+refuse-at-requires-2 c κs = search needs
 
 returns-2 : tie.Need-returns-2
 returns-2 c =
     let a = c .before .before .before .before .args in
-    rw (c .refuse2 .ensures) (sym (fixed-out (a .s .now) (a .at) (a .n) (omega arith)))
+    rw (c .refuse-at2 .ensures) (sym (fixed-out (a .s .now) (a .at) (a .n) (omega arith)))
 
 long-window-requires : tie.Need-long-window-requires
 long-window-requires c κs = search needs
@@ -57,9 +57,9 @@ fixed-at-spec =
     tie.close
     (tie.spec
     mul-end
-    refuse-requires
+    refuse-at-requires
     returns
-    refuse-requires-2
+    refuse-at-requires-2
     returns-2
     long-window-requires
     sub-t12

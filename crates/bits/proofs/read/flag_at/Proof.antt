@@ -6,13 +6,13 @@ use borrow.Author.Needs.{needs}
 use Rattle.bits.proofs.read.flag_at.Statement.{statement}
 use Rattle.bits.proofs.read.flag_at.Tie as tie
 
-refuse-requires : tie.Need-refuse-requires
-refuse-requires c κs = search needs
+refuse-at-requires : tie.Need-refuse-at-requires
+refuse-at-requires c κs = search needs
 
 returns : tie.Need-returns
 returns c =
     let a = c .before .before .before .args in
-    rw (c .refuse .ensures, fixed-out (a .s .now) (a .at) 1 (omega arith))
+    rw (c .refuse-at .ensures, fixed-out (a .s .now) (a .at) 1 (omega arith))
 
 shared-slice-read-bit : tie.Need-shared-slice-read-bit
 shared-slice-read-bit c = search needs
@@ -39,7 +39,7 @@ pub flag-at-spec : {M : Type 1} → statement M
 flag-at-spec =
     tie.close
     (tie.spec
-    refuse-requires
+    refuse-at-requires
     returns
     shared-slice-read-bit
     sub-bit

@@ -25,17 +25,17 @@ returns : tie.Need-returns
 unfolding u
 returns c = test-none _ _ _ _ _ _ (c .before .before .bits .ensures) (ap asRead (c .enum-told .given .1))
 
-cast-refuse : tie.Need-cast-refuse
-cast-refuse c = search needs
+cast-refuse-at : tie.Need-cast-refuse-at
+cast-refuse-at c = search needs
 
-refuse-requires : tie.Need-refuse-requires
-refuse-requires c κs = search needs
+refuse-at-requires : tie.Need-refuse-at-requires
+refuse-at-requires c κs = search needs
 
 returns-2 : tie.Need-returns-2
 unfolding u
 returns-2 c =
     let k : c .before .before .before .a .given .0 .0 < 2 ^ 63 = omega arith in
-    test-fail _ _ _ _ _ _ (c .before .before .before .before .before .bits .ensures) (ap asRead (c .before .before .before .a .given .1)) (ap not (eq-eqb _ _ (c .before .if1 .taken))) (rw (toZ-pos w64 k) at (c .refuse .ensures))
+    test-fail _ _ _ _ _ _ (c .before .before .before .before .before .bits .ensures) (ap asRead (c .before .before .before .a .given .1)) (ap not (eq-eqb _ _ (c .before .if1 .taken))) (rw (toZ-pos w64 k) at (c .refuse-at .ensures))
 
 returns-3 : tie.Need-returns-3
 unfolding u
@@ -49,7 +49,7 @@ colour-plane-spec =
     enum-known-a
     enum-told
     returns
-    cast-refuse
-    refuse-requires
+    cast-refuse-at
+    refuse-at-requires
     returns-2
     returns-3)

@@ -4,16 +4,16 @@ use borrow.Author.Needs.{needs}
 use Rattle.fields.proofs.read.not_scalable.Statement.{statement}
 use Rattle.fields.proofs.read.not_scalable.Tie as tie
 
-refuse-requires : tie.Need-refuse-requires
-refuse-requires c κs = search needs
+refuse-at-requires : tie.Need-refuse-at-requires
+refuse-at-requires c κs = search needs
 
 returns : tie.Need-returns
 unfolding notScalable test nothing
-returns c = λ s. rw (c .refuse .ensures, c .before .if1 .taken)
+returns c = λ s. rw (c .refuse-at .ensures, c .before .if1 .taken)
 
 returns-2 : tie.Need-returns-2
 unfolding notScalable test nothing
 returns-2 c = λ s. rw (c .if1 .left)
 
 pub not-scalable-spec : {M : Type 1} → statement M
-not-scalable-spec = tie.close (tie.spec refuse-requires returns returns-2)
+not-scalable-spec = tie.close (tie.spec refuse-at-requires returns returns-2)

@@ -24,11 +24,11 @@ returns c = test-none _ _ _ _ _ _ (c .before .before .code .ensures) (ap asGiven
 offset-fits-requires : tie.Need-offset-fits-requires
 offset-fits-requires c κs = search needs
 
-cast-refuse : tie.Need-cast-refuse
-cast-refuse c = let f : SFits w32 (c .before .before .before .before .before .before .a .given .0 .0 .value) = search needs in wide-fits f
+cast-refuse-at : tie.Need-cast-refuse-at
+cast-refuse-at c = let f : SFits w32 (c .before .before .before .before .before .before .a .given .0 .0 .value) = search needs in wide-fits f
 
-refuse-requires : tie.Need-refuse-requires
-refuse-requires c κs = search needs
+refuse-at-requires : tie.Need-refuse-at-requires
+refuse-at-requires c κs = search needs
 
 returns-2 : tie.Need-returns-2
 returns-2 c =
@@ -40,7 +40,7 @@ returns-3 : tie.Need-returns-3
 returns-3 c =
     let f : SFits w32 (c .before .before .before .before .before .before .before .a .given .0 .0 .value) = search needs in
     let k = sym (rw (toZ-ofZ f) at (c .before .before .before .before .offset-fits .ensures)) ∙ c .before .before .before .if1 .left in
-    test-fail _ _ _ _ _ _ (c .before .before .before .before .before .before .before .before .before .code .ensures) (ap asGiven (c .before .before .before .before .before .before .before .a .given .1)) k (rw (wide-is f) at (c .refuse .ensures))
+    test-fail _ _ _ _ _ _ (c .before .before .before .before .before .before .before .before .before .code .ensures) (ap asGiven (c .before .before .before .before .before .before .before .a .given .1)) k (rw (wide-is f) at (c .refuse-at .ensures))
 
 pub offset-spec : {M : Type 1} → statement M
 offset-spec =
@@ -51,7 +51,7 @@ offset-spec =
     enum-told
     returns
     offset-fits-requires
-    cast-refuse
-    refuse-requires
+    cast-refuse-at
+    refuse-at-requires
     returns-2
     returns-3)

@@ -24,11 +24,11 @@ returns : tie.Need-returns
 unfolding ue
 returns c = test-none _ _ _ _ _ _ (c .before .before .ue .ensures) (ap asRead (c .enum-told .given .1))
 
-cast-refuse : tie.Need-cast-refuse
-cast-refuse c = search needs
+cast-refuse-at : tie.Need-cast-refuse-at
+cast-refuse-at c = search needs
 
-refuse-requires : tie.Need-refuse-requires
-refuse-requires c κs = search needs
+refuse-at-requires : tie.Need-refuse-at-requires
+refuse-at-requires c κs = search needs
 
 returns-2 : tie.Need-returns-2
 unfolding ue
@@ -38,7 +38,7 @@ returns-3 : tie.Need-returns-3
 unfolding ue
 returns-3 c =
     let k : c .before .before .before .a .given .0 .0 < 2 ^ 63 = omega arith in
-    test-fail _ _ _ _ _ _ (c .before .before .before .before .before .ue .ensures) (ap asRead (c .before .before .before .a .given .1)) (lt-leb _ _ (c .before .if1 .left)) (rw (toZ-pos w64 k) at (c .refuse .ensures))
+    test-fail _ _ _ _ _ _ (c .before .before .before .before .before .ue .ensures) (ap asRead (c .before .before .before .a .given .1)) (lt-leb _ _ (c .before .if1 .left)) (rw (toZ-pos w64 k) at (c .refuse-at .ensures))
 
 pub tested-spec : {M : Type 1} → statement M
 tested-spec =
@@ -48,7 +48,7 @@ tested-spec =
     enum-known-a
     enum-told
     returns
-    cast-refuse
-    refuse-requires
+    cast-refuse-at
+    refuse-at-requires
     returns-2
     returns-3)

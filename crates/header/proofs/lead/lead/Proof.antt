@@ -84,11 +84,11 @@ enum-known-a4 c = search needs
 enum-told-4 : tie.Need-enum-told-4
 enum-told-4 c = search needs
 
-cast-refuse : tie.Need-cast-refuse
-cast-refuse c = search needs
+cast-refuse-at : tie.Need-cast-refuse-at
+cast-refuse-at c = search needs
 
-refuse-requires : tie.Need-refuse-requires
-refuse-requires c κs = search needs
+refuse-at-requires : tie.Need-refuse-at-requires
+refuse-at-requires c κs = search needs
 
 returns-4 : tie.Need-returns-4
 unfolding lead seq ue sliceType
@@ -104,7 +104,7 @@ returns-4 c =
     let x = tableOf (t1 .before .before .args .sequences .now) (t1 .before .before .args .pictures .now) in
     let h = sym (t3 .tested2 .ensures) ∙ ap asRead (g3 .a3 .given .1) in
     let k = sym (t4 .picture-in .ensures) ∙ c .before .enum-told4 .given .1 in
-    rw (rw (toZ-pos w64 n) at (c .refuse .ensures), ← t1 .ue .ensures, g1 .a1 .given .1, ← t2 .tested .ensures, g2 .a2 .given .1, no-picture x _ _ h k)
+    rw (rw (toZ-pos w64 n) at (c .refuse-at .ensures), ← t1 .ue .ensures, g1 .a1 .given .1, ← t2 .tested .ensures, g2 .a2 .given .1, no-picture x _ _ h k)
 
 sequence-in-requires : tie.Need-sequence-in-requires
 sequence-in-requires c κs = search needs
@@ -115,11 +115,11 @@ enum-known-a5 c = search needs
 enum-told-5 : tie.Need-enum-told-5
 enum-told-5 c = search needs
 
-cast-refuse-2 : tie.Need-cast-refuse-2
-cast-refuse-2 c = search needs
+cast-refuse-at-2 : tie.Need-cast-refuse-at-2
+cast-refuse-at-2 c = search needs
 
-refuse-requires-2 : tie.Need-refuse-requires-2
-refuse-requires-2 c κs = search needs
+refuse-at-requires-2 : tie.Need-refuse-at-requires-2
+refuse-at-requires-2 c κs = search needs
 
 returns-5 : tie.Need-returns-5
 unfolding lead seq ue sliceType
@@ -138,7 +138,7 @@ returns-5 c =
     let h = sym (t3 .tested2 .ensures) ∙ ap asRead (g3 .a3 .given .1) in
     let k = sym (t4 .picture-in .ensures) ∙ g4 .a4 .given .1 in
     let g = sym (t5 .sequence-in .ensures) ∙ c .before .before .enum-told5 .given .1 in
-    rw (rw (toZ-pos w64 n) at (c .refuse2 .ensures), ← t1 .ue .ensures, g1 .a1 .given .1, ← t2 .tested .ensures, g2 .a2 .given .1, no-sequence x _ _ h k g)
+    rw (rw (toZ-pos w64 n) at (c .refuse-at2 .ensures), ← t1 .ue .ensures, g1 .a1 .given .1, ← t2 .tested .ensures, g2 .a2 .given .1, no-sequence x _ _ h k g)
 
 returns-6 : tie.Need-returns-6
 unfolding lead seq ue sliceType
@@ -181,13 +181,13 @@ lead-spec =
     picture-in-requires
     enum-known-a4
     enum-told-4
-    cast-refuse
-    refuse-requires
+    cast-refuse-at
+    refuse-at-requires
     returns-4
     sequence-in-requires
     enum-known-a5
     enum-told-5
-    cast-refuse-2
-    refuse-requires-2
+    cast-refuse-at-2
+    refuse-at-requires-2
     returns-5
     returns-6)

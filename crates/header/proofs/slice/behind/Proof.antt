@@ -91,8 +91,8 @@ returns-4 c =
 any-set-after-requires : tie.Need-any-set-after-requires
 any-set-after-requires c κs = search needs
 
-refuse-requires : tie.Need-refuse-requires
-refuse-requires c κs = search needs
+refuse-at-requires : tie.Need-refuse-at-requires
+refuse-at-requires c κs = search needs
 
 returns-5 : tie.Need-returns-5
 returns-5 c =
@@ -103,7 +103,7 @@ returns-5 c =
     let ld = marks-got _ _ _ (c .before .before .before .before .before .before .before .before .before .before .marks-into .ensures) (c .before .before .before .before .before .before .before .before .a5 .given .1) in
     let hb = sym (c .before .before .before .before .before .before .back .ensures) ∙ ap asBack (c .before .before .before .before .a6 .given .1) in
     let z = sym (c .before .before .any-set-after .ensures) ∙ not-true _ (c .before .if1 .taken) in
-    filled-no _ _ (follows-no (a .kind) (a .l) (a .f) (bitsOf (a .s .now)) (a .c .at) (lo .read) (lw .read) (ld .read) hb z) (rw (c .refuse .ensures))
+    filled-no _ _ (follows-no (a .kind) (a .l) (a .f) (bitsOf (a .s .now)) (a .c .at) (lo .read) (lw .read) (ld .read) hb z) (rw (c .refuse-at .ensures))
 
 lay-requires : tie.Need-lay-requires
 lay-requires c κs = search needs
@@ -147,7 +147,7 @@ behind-spec =
     why-back-requires
     returns-4
     any-set-after-requires
-    refuse-requires
+    refuse-at-requires
     returns-5
     lay-requires
     returns-6)

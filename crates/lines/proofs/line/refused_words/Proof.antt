@@ -29,11 +29,17 @@ signed-number-requires c κs =
     let f : SFits w64 (c .before .before .before .before .before .before .before .before .before .args .r .value) = search needs in
     rw (toZ-ofZ f) (omega (arith, signed-short (c .before .before .before .before .before .before .before .before .before .args .r .value) f, decimal-8 (c .before .before .before .before .before .before .before .before .before .args .r .number) (search needs)))
 
+bit-words-requires : tie.Need-bit-words-requires
+bit-words-requires c κs =
+    let f : SFits w64 (c .before .before .before .before .before .before .before .before .before .before .before .args .r .value) = search needs in
+    let s = rw (toZ-ofZ f) at (c .before .signed-number .ensures) in
+    omega (arith, s .end, signed-short (c .before .before .before .before .before .before .before .before .before .before .before .args .r .value) f, decimal-8 (c .before .before .before .before .before .before .before .before .before .before .before .args .r .number) (search needs))
+
 returns : tie.Need-returns
 returns c =
-    let f : SFits w64 (c .before .before .before .before .before .before .before .before .before .before .args .r .value) = search needs in
-    let s = rw (toZ-ofZ f) at (c .signed-number .ensures) in
-    (then (then (c .before .before .before .before .before .before .field .ensures) (c .before .before .before .words .ensures)) s, omega (arith, s .end, signed-short (c .before .before .before .before .before .before .before .before .before .before .args .r .value) f, decimal-8 (c .before .before .before .before .before .before .before .before .before .before .args .r .number) (search needs)))
+    let f : SFits w64 (c .before .before .before .before .before .before .before .before .before .before .before .before .args .r .value) = search needs in
+    let s = rw (toZ-ofZ f) at (c .before .before .signed-number .ensures) in
+    (then (then (then (c .before .before .before .before .before .before .before .before .field .ensures) (c .before .before .before .before .before .words .ensures)) s) (c .bit-words .ensures .0), c .bit-words .ensures .1)
 
 pub refused-words-spec : {M : Type 1} → statement M
 refused-words-spec =
@@ -45,4 +51,5 @@ refused-words-spec =
     slice-aggregate-words
     words-requires
     signed-number-requires
+    bit-words-requires
     returns)

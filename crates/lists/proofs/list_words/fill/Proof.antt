@@ -34,8 +34,8 @@ returns c =
     let t = c .before .before .before .tested in
     fill-refused _ _ (no-code (g .kind) (bitsOf (g .s .now)) (g .c .at) a (t .result) (t .ensures) _ _ (c .before .enum-told .given .1) (c .why .ensures))
 
-refuse-requires : tie.Need-refuse-requires Inv-loop μ-loop
-refuse-requires c κs = search needs
+refuse-at-requires : tie.Need-refuse-at-requires Inv-loop μ-loop
+refuse-at-requires c κs = search needs
 
 returns-2 : tie.Need-returns-2 Inv-loop μ-loop
 returns-2 c =
@@ -44,7 +44,7 @@ returns-2 c =
     let t = c .before .before .before .before .before .before .before .tested in
     let v = c .before .before .before .before .before .a .given in
     let z = c .before .before .if1 .left in
-    fill-refused _ _ (too-many (g .kind) (bitsOf (g .s .now)) (g .c .at) a (t .result) (t .ensures) (v .0 .0) (v .0 .1 .0) (v .1) z (c .before .if2 .taken) _ (c .refuse .ensures))
+    fill-refused _ _ (too-many (g .kind) (bitsOf (g .s .now)) (g .c .at) a (t .result) (t .ensures) (v .0 .0) (v .0 .1 .0) (v .1) z (c .before .if2 .taken) _ (c .refuse-at .ensures))
 
 has-first-requires : tie.Need-has-first-requires Inv-loop μ-loop
 has-first-requires c κs = search needs
@@ -177,7 +177,7 @@ fill-spec =
     enum-told
     why-requires
     returns
-    refuse-requires
+    refuse-at-requires
     returns-2
     has-first-requires
     given-requires

@@ -1,8 +1,8 @@
 use mathlib.Core.Path.{refl}
 use borrow.Author.Needs.{needs}
 use Rattle.header.specs.Short.{numbersOf, signedOf}
-use Rattle.header.proofs.fields.lay.Statement.{statement}
-use Rattle.header.proofs.fields.lay.Tie as tie
+use Rattle.header.proofs.words.lay.Statement.{statement}
+use Rattle.header.proofs.words.lay.Tie as tie
 
 cast-t7 : tie.Need-cast-t7
 cast-t7 c = search needs

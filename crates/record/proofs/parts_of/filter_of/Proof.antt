@@ -1,7 +1,7 @@
 use Rattle.record.specs.Fields.{filterFrom}
 use borrow.Author.Needs.{needs}
-use Rattle.record.proofs.fields.filter_of.Statement.{statement}
-use Rattle.record.proofs.fields.filter_of.Tie as tie
+use Rattle.record.proofs.parts_of.filter_of.Statement.{statement}
+use Rattle.record.proofs.parts_of.filter_of.Tie as tie
 
 marked-number-requires : tie.Need-marked-number-requires
 marked-number-requires c κs = search needs

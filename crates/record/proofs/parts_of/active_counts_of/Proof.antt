@@ -1,7 +1,7 @@
 use Rattle.record.specs.Fields.{activeCountsFrom}
 use borrow.Author.Needs.{needs}
-use Rattle.record.proofs.fields.active_counts_of.Statement.{statement}
-use Rattle.record.proofs.fields.active_counts_of.Tie as tie
+use Rattle.record.proofs.parts_of.active_counts_of.Statement.{statement}
+use Rattle.record.proofs.parts_of.active_counts_of.Tie as tie
 
 marked-flag-requires : tie.Need-marked-flag-requires
 marked-flag-requires c κs = search needs

@@ -1,7 +1,7 @@
 use Rattle.record.specs.Fields.{orderCountFrom}
 use borrow.Author.Needs.{needs}
-use Rattle.record.proofs.fields.order_count_of.Statement.{statement}
-use Rattle.record.proofs.fields.order_count_of.Tie as tie
+use Rattle.record.proofs.parts_of.order_count_of.Statement.{statement}
+use Rattle.record.proofs.parts_of.order_count_of.Tie as tie
 
 marked-number-requires : tie.Need-marked-number-requires
 marked-number-requires c κs = search needs
