@@ -65,20 +65,19 @@ read : {m : Res Prefix} {p : Prefix} {n e : ℕ} {words : List ℕ} → m ≡ go
 unfolding prefixStep leaves
 read e k w = rw (e, k) (refl, w)
 
+-- the flag that was asked for is the one of the definition
+asked-flag : (k : PrefixKind) (v : Bool) (s : Bits) (at : ℕ) {there : Bool} {x m : Res MarkedFlag} → there ≡ hasBaseMarking k v → x ≡ flagIf there .read s at → x ≡ m
+    → flagIf (hasBaseMarking k v) .read s at ≡ m
+asked-flag k v s at e g h = rw (← e) (sym g ∙ h)
+
 module _ (k : PrefixKind) (s : Bits) (at : ℕ) {zeroed : List ℕ} (zeros : zeroed ≡ replicate 198 0) {a : FlagStep} (first : asFlag a ≡ flagIf (k .there) .read s at) where
   pub store-refused : {r : Refusal} → a ≡ FlagStep.Refused r → Answer (prefix k .read s at) (PrefixStep.Refused r) zeroed
   store-refused g = refused (store-no k s at (sym first ∙ ap asFlag g)) zeros
 
   module _ {f : MarkedFlag} {c : Cursor} (got1 : a ≡ FlagStep.Got f c) {there : Bool} (asked : there ≡ hasBaseMarking k (f .value)) {b : FlagStep}
       (second : asFlag b ≡ flagIf there .read s (c .at)) where
-    store : flagIf (k .there) .read s at ≡ got f (c .at)
-    store = sym first ∙ ap asFlag got1
-
-    flagged : {m : Res MarkedFlag} → asFlag b ≡ m → flagIf (hasBaseMarking k (f .value)) .read s (c .at) ≡ m
-    flagged e = ap (λ (x : Bool). flagIf x .read s (c .at)) (sym asked) ∙ sym second ∙ e
-
     pub adaptive-refused : {r : Refusal} → b ≡ FlagStep.Refused r → Answer (prefix k .read s at) (PrefixStep.Refused r) zeroed
-    adaptive-refused g = refused (adaptive-no k s at store (flagged (ap asFlag g))) zeros
+    adaptive-refused g = refused (adaptive-no k s at (sym first ∙ ap asFlag got1) (asked-flag k (f .value) s (c .at) asked second (ap asFlag g))) zeros
 
     module _ {v : MarkedFlag} {d : Cursor} (got2 : b ≡ FlagStep.Got v d) {n : Kind} (kind : n ≡ baseMarkingKind) {l : ListStep} {words : List ℕ}
         (third : l ≡ listStep (operationsIf (v .value) n .read s (d .at))) (left : words ≡ listLeft (operationsIf (v .value) n .read s (d .at)) zeroed) where
@@ -88,17 +87,17 @@ module _ (k : PrefixKind) (s : Bits) (at : ℕ) {zeroed : List ℕ} (zeros : zer
       pub marking-refused : {r : Refusal} → l ≡ ListStep.Refused r → Answer (prefix k .read s at) (PrefixStep.Refused r) words
       marking-refused g =
           refused
-          (marking-no k s at store (flagged (ap asFlag got2)) (same ∙ list-refused (operationsIf (v .value) n .read s (d .at)) third g))
+          (marking-no k s at (sym first ∙ ap asFlag got1) (asked-flag k (f .value) s (c .at) asked second (ap asFlag got2)) (same ∙ list-refused (operationsIf (v .value) n .read s (d .at)) third g))
           (list-cleared (operationsIf (v .value) n .read s (d .at)) zeroed third left g)
 
       module _ {count : ℕ} {e : Cursor} (got3 : l ≡ ListStep.Got count e) {x : FlagStep} (fourth : asFlag x ≡ flagIf (k .there) .read s (e .at)) where
         pub more-refused : {r : Refusal} {cleared : List ℕ} → x ≡ FlagStep.Refused r → cleared ≡ replicate 198 0 → Answer (prefix k .read s at) (PrefixStep.Refused r) cleared
         more-refused g w =
             let o = list-read (operationsIf (v .value) n .read s (d .at)) third left got3 in
-            refused (more-no k s at store (flagged (ap asFlag got2)) (same ∙ o .read) (sym fourth ∙ ap asFlag g)) w
+            refused (more-no k s at (sym first ∙ ap asFlag got1) (asked-flag k (f .value) s (c .at) asked second (ap asFlag got2)) (same ∙ o .read) (sym fourth ∙ ap asFlag g)) w
 
         pub prefix-read : {m : MarkedFlag} {z : Cursor} → x ≡ FlagStep.Got m z
             → Answer (prefix k .read s at) (PrefixStep.Got (record { «store_ref_base_pic_flag» = f; «adaptive_ref_base_pic_marking_mode_flag» = v; «base_markings» = count; «additional_prefix_nal_unit_extension_flag» = m }) z) words
         prefix-read g =
             let o = list-read (operationsIf (v .value) n .read s (d .at)) third left got3 in
-            read (all-got k s at store (flagged (ap asFlag got2)) (same ∙ o .read) (sym fourth ∙ ap asFlag g)) (o .counted) (rw (← zeros) (o .held))
+            read (all-got k s at (sym first ∙ ap asFlag got1) (asked-flag k (f .value) s (c .at) asked second (ap asFlag got2)) (same ∙ o .read) (sym fourth ∙ ap asFlag g)) (o .counted) (rw (← zeros) (o .held))

@@ -14,7 +14,7 @@ both-requires-2 c κs = search needs
 
 returns : tie.Need-returns
 unfolding hasBaseMarking
-returns c = rw (c .both2 .ensures, c .before .both .ensures, c .before .before .either .ensures)
+returns c = rw (c .both2 .ensures, c .before .both .ensures, c .before .before .before .either .ensures)
 
 pub has-base-marking-spec : {M : Type 1} → statement M
 has-base-marking-spec = tie.close (tie.spec either-requires both-requires both-requires-2 returns)
