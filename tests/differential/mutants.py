@@ -32,7 +32,7 @@ EDITS = [
     ("set id 256", "b.ue_up_to(255, 8)", "b.ue_up_to(256, 8)"),
     ("9 and 10 exchanged", "raise b.refused(10, pic.sps_id)", "raise b.refused(9, pic.sps_id)"),
     ("colour plane 3", "b.u(2)) == 3", "b.u(2)) == 4"),
-    ("IDR of a view by the wrong bit", "extension[0] & 0x40", "extension[0] & 0x20"),
+    ("IDR of a view by the wrong bit", "mvc and not extension[0] & 0x40", "mvc and not extension[0] & 0x20"),
     ("IDR of type 1", "idr = kind == 5", "idr = kind in (1, 5)"),
     ("bottom delta of a field too", "and not field\n", "and True\n"),
     ("order counts of type 1 exchanged", "{b.se() if read else 0}:{b.se() if read and both", "{b.se() if read and both else 0}:{b.se() if read"),
