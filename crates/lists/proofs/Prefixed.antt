@@ -48,7 +48,7 @@ module _ (k : PrefixKind) (s : Bits) (at : ℕ) where
 
         all-got : {x : MarkedFlag} {e4 : ℕ} → flagIf (k .there) .read s e3 ≡ got x e4
             → prefix k .read s at
-                ≡ got (record { «store_ref_base_pic_flag» = f; «adaptive_ref_base_pic_marking_mode_flag» = a; «base_marking» = o; «additional_prefix_nal_unit_extension_flag» = x }) e4
+            ≡ got (record { «store_ref_base_pic_flag» = f; «adaptive_ref_base_pic_marking_mode_flag» = a; «base_marking» = o; «additional_prefix_nal_unit_extension_flag» = x }) e4
         unfolding prefix seq shaped
         all-got m = rw (h, g, l, m)
 

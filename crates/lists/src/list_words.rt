@@ -17,9 +17,6 @@ use fields::read::given;
 use fields::read::tested;
 use fields::step::FlagStep;
 use fields::step::why_flag;
-use crate::operations::ListKind;
-use crate::operations::has_first;
-use crate::operations::has_second;
 use syntax::context::PrefixKind;
 use syntax::marks::MarkedFlag;
 ghost use mathlib.Core.Path.{_≡_};
@@ -165,20 +162,12 @@ fn base_marking_kind() -> ListKind
 fn has_base_marking(kind: PrefixKind, store: bool) -> bool
     ensures { λ r. ⌜ r ≡ hasBaseMarking kind store ⌝ }
 {
-    let marks = both(
-        either(kind.use_ref_base_pic_flag, store),
-        !kind.idr_flag,
-    );
+    let marks = both(either(kind.use_ref_base_pic_flag, store), !kind.idr_flag);
     both(kind.there, marks)
 }
 
 // The body of a prefix unit, by what its first bytes say of it. Words that hold no entry of its list are zeros, and so are all beside a refusal.
-pub fn prefix_into(
-    s: &[u8],
-    c: Cursor,
-    kind: PrefixKind,
-    words: &mut [u32; 198],
-) -> PrefixStep
+pub fn prefix_into(s: &[u8], c: Cursor, kind: PrefixKind, words: &mut [u32; 198]) -> PrefixStep
     ensures { λ r. ⌜ r ≡ prefixStep (prefix kind .read (bitsOf (now (s .entry))) (c .at)) ⌝ }
     ensures { λ r. ⌜ now (words .exit) ≡ prefixLeft (prefix kind .read (bitsOf (now (s .entry))) (c .at)) ⌝ }
 {

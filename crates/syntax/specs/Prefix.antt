@@ -23,8 +23,7 @@ prefix k =
       «base_marking» = v .1 .1 .0;
       «additional_prefix_nal_unit_extension_flag» = v .1 .1 .1;
     })
-    (λ p.
-    (
+    (λ p. (
       p .«store_ref_base_pic_flag»,
       (p .«adaptive_ref_base_pic_marking_mode_flag», (p .«base_marking», p .«additional_prefix_nal_unit_extension_flag»)),
     ))
