@@ -44,7 +44,7 @@ pub trait Form {
 }
 
 /// Every name that a field can have, in reading order.
-pub const NAMES: [&str; 64] = [
+pub const NAMES: [&str; 65] = [
     "type",
     "refusal",
     "value",
