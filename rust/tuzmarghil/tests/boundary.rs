@@ -590,7 +590,7 @@ fn the_place_of_a_refusal() {
         ),
         (&sample, &long, Refusal::at(14, 0, 141)),
         (&sample, &[0x65, 0x88, 0x84, 0x80], Refusal::at(22, 0, 17)),
-        (&sample, &[0x6E, 0x80, 0, 7, 0x90], Refusal::at(23, 3, 1)),
+        (&sample, &[0x6E, 0x80, 0, 7, 0xC8], Refusal::at(23, 3, 2)),
         (&sample, &[0x6E, 0x80, 0, 7], Refusal::at(5, 0, 0)),
     ];
     for (table, unit, refusal) in cases {
