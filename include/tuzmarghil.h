@@ -16,7 +16,7 @@ extern "C" {
 #endif
 
 /* The number of this layout: what tuz_layout() answers in an archive made from the same sources. */
-#define TUZ_LAYOUT 3
+#define TUZ_LAYOUT 4
 
 typedef struct {
   uint32_t sequences[224];
@@ -121,6 +121,7 @@ typedef struct {
 /* prefix_nal_unit_svc( ) without its list, of which it has the count. */
 typedef struct {
   tuz_MarkedFlag store_ref_base_pic_flag;
+  tuz_MarkedFlag adaptive_ref_base_pic_marking_mode_flag;
   uint32_t base_markings;
   tuz_MarkedFlag additional_prefix_nal_unit_extension_flag;
 } tuz_PrefixShort;

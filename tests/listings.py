@@ -120,7 +120,7 @@ def recordings():
     yield "zeros_at_the_end", SAMPLE + bytes(9)
     yield "zeros_before_a_code", CODE + b"\x09\xf0" + bytes(5) + CODE + b"\x0b"
     yield "first_bytes", b"".join(CODE + bytes([b]) for b in (0x80, 0xFF, 0x00, 0x09, 0x14, 0x1F, 0x6E, 0x65, 0x01))
-    yield "prefix_units", b"".join(CODE + bytes.fromhex(u) for u in ("0e400007", "0ec00007", "6ec00007", "6ec0000720", "6ec00007a0ff", "6ec0000780", "6e4000", "6ec00007b0"))
+    yield "prefix_units", b"".join(CODE + bytes.fromhex(u) for u in ("0e400007", "0ec00007", "6ec00007", "6ec0000720", "6ec00007a0ff", "6ec0000780", "6e4000", "6ec00007b0", "6e80000790", "6e80001710", "6e800007c8", "6e800007d0"))
     yield "views", b"".join(CODE + bytes.fromhex(u) for u in ("744000019aa964ffc0", "748000009aa964ffc0", "740010078884a0", "7540000199a0", "14400001"))
     yield "levels", b"".join(CODE + p_slice(0, 1, q, b"\xff") for q in (25, 26, -26, -27, 0, 2147483647, -2147483647))
     yield "large_values", b"".join(CODE + b"\x01" + escaped(from_bits(t + "1" * 16)) for t in (ue(0) + ue(4294967294), ue(0) + ue(10), ue(0) + ue(5) + ue(256), ue(0) + ue(5) + ue(255), "0" * 31 + "1", "0" * 24))

@@ -296,17 +296,26 @@ def slice_header(b, table, ref_idc, kind, extension):
     return words + flags + [f"bits={b.at}"]
 
 
-def prefix_body(b):
-    words = [f"store_ref_base_pic_flag={b.u(1)}"]
-    if words[0][-1] == "1":
-        words.append(f"base_mmco={joined(operations(b, 0, 2, 23, [0, 1, 1]))}")
+def base_marking(b):
+    """The words of a prefix unit's operations."""
+    return [f"base_mmco={joined(operations(b, 0, 2, 23, [0, 1, 1]))}"]
+
+
+def prefix_body(b, extension):
+    """The words of prefix_nal_unit_svc( )."""
+    store = b.u(1)
+    words = [f"store_ref_base_pic_flag={store}"]
+    if (extension[2] & 0x10 or store) and not extension[0] & 0x40:
+        adaptive = b.u(1)
+        words.append(f"adaptive_ref_base_pic_marking_mode_flag={adaptive}")
+        words += base_marking(b) if adaptive else []
     return words + [f"additional_prefix_nal_unit_extension_flag={b.u(1)}"]
 
 
-def answer(table, unit):
-    """The answer line for a whole unit."""
+def answer(table, unit, prefix=prefix_body):
+    """The answer line for a whole unit; `prefix` reads a prefix unit's body."""
     try:
-        return answered(table, unit)
+        return answered(table, unit, prefix)
     except Refused as r:
         return told(r)
 
@@ -316,7 +325,7 @@ def told(r):
     return f"refused {number} value={value}" + "".join(f" bit={b}" for b in bit)
 
 
-def answered(table, unit):
+def answered(table, unit, prefix):
     if len(unit) > LIMIT:
         raise Refused(27, 0)
     if not unit:
@@ -333,7 +342,7 @@ def answered(table, unit):
     if kind == 14:
         words += extension_words(extension)
         if ref_idc and extension[0] & 0x80:
-            words += prefix_body(Body(unescaped(rest)))
+            words += prefix(Body(unescaped(rest)), extension)
         return " ".join(["prefix"] + words)
     words.append(f"nal_unit_type={kind}")
     if extension:

@@ -51,6 +51,26 @@ case("modification idc 4", view, (12, 4, front() + "01"))
 case("modification idc 4 of a view", view, first=0x14, extension=b"\x40\x00\x01", mods=1)
 case("a scalable slice", view, (13, 0, front() + "0"), first=0x14, extension=b"\x80\x00\x00")
 
+
+
+def prefix(name, extension, body, refused=None, store=None, adaptive=None, base=0, more=None):
+    flags = "".join(f" {n}={v}" if v is not None else "" for n, v in (("store", store), ("adaptive", adaptive)))
+    said = f"refused {refused[0]} value={refused[1]} bit={len(refused[2])}" if refused else f"prefix{flags} base={base}" + (f" more={more}" if more is not None else "")
+    cases.append((bytes([0x6E]) + extension + escaped(packed(body + TAIL)), f"{name}: {said}"))
+
+
+SVC, USES, IDR, MVC = b"\x80\x00\x07", b"\x80\x00\x17", b"\xc0\x00\x17", b"\x40\x00\x07"
+prefix("a prefix of a view", MVC, "101")
+prefix("a prefix that neither stores nor uses", SVC, "01", store=0, more=1)
+prefix("a prefix that stores, sliding window", SVC, "101", store=1, adaptive=0, more=1)
+prefix("a prefix that uses, sliding window", USES, "001", store=0, adaptive=0, more=1)
+prefix("a prefix of an IDR picture", IDR, "10", store=1, more=0)
+for n in (0, 66, 67):
+    entries = "11" + (ue(1) + ue(0)) * n
+    prefix(f"a base marking list of {n}", SVC, entries + ue(0) + "1", None if n <= 66 else (14, 0, entries[: 2 + 4 * 66]), store=1, adaptive=1, base=n, more=1)
+prefix("a base marking operation 2", USES, "01" + ue(2) + ue(5) + ue(0) + "0", store=0, adaptive=1, base=1, more=0)
+prefix("a base marking operation 3", USES, "01" + ue(3) + ue(5), (23, 3, "01"))
+
 source = (CRATES / "try_unit/src/cases.rt").read_text()
 literals = [bytes.fromhex(x.replace("\\x", "")) for x in re.findall(r'b"((?:\\x[0-9a-f]{2})+)"', source)]
 if literals != [u for u, _ in cases]:

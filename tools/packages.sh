@@ -8,8 +8,8 @@ command -v cc >/dev/null 2>&1 || rust_packages="$rust_packages gcc libc6-dev"
 python_packages="librust-pyo3-dev python3 python3-dev python3-numpy"
 # What tests the manual page.
 manual_packages="groff-base"
-# The libraries of the oracle, the encoder that made the clips, and ffmpeg, for longer clips to tear.
-oracle_packages="librust-bitstream-io-dev librust-memchr-dev x264 ffmpeg"
+# The libraries of the oracle, the encoders that made the clips, and ffmpeg, for longer clips to tear.
+oracle_packages="librust-bitstream-io-dev librust-memchr-dev x264 libopenh264-dev ffmpeg"
 # The peers of the benchmark, and what compiles them.
 peer_packages="gcc pkg-config libgstreamer-plugins-bad1.0-dev libavcodec-dev"
 

@@ -1,13 +1,14 @@
 #!/usr/bin/env python3
-"""Makes the clips of this folder and of demo/ anew: a night sky of our own with a comet passing, by x264 (Debian package x264).
+"""Makes the clips of this folder and of demo/ anew: a night sky of our own with a comet passing, by x264 and OpenH264 (Debian packages x264, libopenh264-dev).
 
 make.py [FOLDER]   writes NAME.264 and NAME.table for each clip
-x264's output depends on its version (see README.md); the tests do not depend on these very bytes.
+An encoder's output depends on its version (see README.md); the tests do not depend on these very bytes.
 """
 import pathlib
 import random
 import subprocess
 import sys
+import tempfile
 
 HERE = pathlib.Path(__file__).resolve().parent
 sys.path.insert(0, str(HERE.parent))
@@ -26,6 +27,7 @@ CLIPS = {
     # the demo: a slice a picture, one IDR picture, QP that falls as the rate allows
     "night": (24, ["--profile", "main", "--bitrate", "120", "--keyint", "250", "--no-scenecut", "--bframes", "2"]),
 }
+SCALABLE = 24  # frames of the scalable clip: two spatial layers and two temporal ones
 FOLDERS = {"night": HERE.parent.parent / "demo"}
 
 
@@ -51,11 +53,25 @@ def sky(frames):
         yield b"FRAME\n" + bytes(luma) + chroma
 
 
+def by_x264(clip, frames, options):
+    subprocess.run(["x264", *COMMON, *options, "-o", str(clip), "-"], input=b"".join(sky(frames)), check=True)
+
+
+def by_openh264(clip):
+    """The scalable clip, by scalable.c."""
+    _, *frames = sky(SCALABLE)
+    with tempfile.TemporaryDirectory() as folder:
+        program = pathlib.Path(folder) / "scalable"
+        subprocess.run(["cc", "-O2", "-Wall", "-o", str(program), str(HERE / "scalable.c"), "-lopenh264"], check=True)
+        planes = b"".join(frame.partition(b"\n")[2] for frame in frames)
+        clip.write_bytes(subprocess.run([program, str(WIDTH), str(HEIGHT)], input=planes, stdout=subprocess.PIPE, check=True).stdout)
+
+
 def main():
-    for name, (frames, options) in CLIPS.items():
+    for name in [*CLIPS, "scalable"]:
         folder = pathlib.Path(sys.argv[1]) if len(sys.argv) > 1 else FOLDERS.get(name, HERE)
         clip = folder / f"{name}.264"
-        subprocess.run(["x264", *COMMON, *options, "-o", str(clip), "-"], input=b"".join(sky(frames)), check=True)
+        by_x264(clip, *CLIPS[name]) if name in CLIPS else by_openh264(clip)
         (folder / f"{name}.table").write_text("\n".join(words_of(clip.read_bytes())) + "\n")
         print(f"{clip}: {clip.stat().st_size:,} bytes")
 

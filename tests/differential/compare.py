@@ -12,7 +12,7 @@ import subprocess
 import tempfile
 
 from codes import escaped
-from rules import answer, table_of, unescaped
+from rules import answer, base_marking, table_of, unescaped
 from sets import for_rust, held_by_rust
 
 AGREED = "agreed"
@@ -36,6 +36,26 @@ def group_of(rust):
     if numbers == ("refused 5 value=0", "refused 6 value=0"):
         return "zeros to the end", document
     return "unknown: " + rust, document
+
+
+def prefix_of_rust(b, extension):
+    """The words of a prefix unit's body as the Rust reads it: operations behind a set store flag, whatever the extension says."""
+    store = b.u(1)
+    words = [f"store_ref_base_pic_flag={store}"] + (base_marking(b) if store else [])
+    return words + [f"additional_prefix_nal_unit_extension_flag={b.u(1)}"]
+
+
+def by_standard(case):
+    """The case; a prefix unit whose two readings differ is a class, if the Rust's is the one that the model has for it."""
+    words, _, unit = case.line.rpartition(" ")
+    if unit[1:2] != "e":  # no type 14
+        return case
+    table, unit = table_of(words.split()), bytes.fromhex(unit)
+    rust, standard = answer(table, unit, prefix_of_rust), answer(table, unit)
+    if rust == standard:
+        return case
+    group = "prefix marking" if case.wanted == rust else "unknown: " + case.rust
+    return case._replace(rust=f"{case.rust} | doc: {standard}", wanted=standard, group=group)
 
 
 def key_of(answer):
@@ -111,7 +131,7 @@ class Sides:
             again = [out[i].line.rpartition(" ") for i in lost]
             for i, x in zip(lost, self.rust([f"{words} {escaped_anew(unit)}".lstrip() for words, _, unit in again])):
                 out[i] = out[i]._replace(rust=f"{out[i].rust} | escaped: {x}", wanted=group_of(x)[1])
-        return out
+        return [by_standard(c) for c in out]
 
 
 class Tally:

@@ -1,8 +1,9 @@
 #!/usr/bin/env python3
-"""freeze.py ORACLE: writes tests/frozen/cases.txt and answers.txt, the Rust's answers to chosen cases.
+"""freeze.py ORACLE [--keep]: writes tests/frozen/cases.txt and answers.txt, the Rust's answers to chosen cases.
 
 First the cases of named.txt, then of the seeds' cases each that shows something of which there are few so far: an answer, a field's
 value, a list's length, a pair of slice type and unit type. A chosen case keeps only the sets that its reading looks up.
+--keep: the chosen cases stay those of cases.txt; new cases of named.txt join them, and the answers are asked anew.
 """
 import collections
 import itertools
@@ -80,10 +81,11 @@ def chosen():
             yield line
 
 
-def main(oracle):
+def main(oracle, *keep):
     frozen = HERE.parent / "frozen"
     named = [line for line in (frozen / "named.txt").read_text().splitlines() if not line.startswith("#")]
-    cases = list(dict.fromkeys(itertools.chain(named, sorted(chosen()))))
+    others = (frozen / "cases.txt").read_text().splitlines() if keep else sorted(chosen())
+    cases = list(dict.fromkeys(itertools.chain(named, others)))
     with tempfile.TemporaryDirectory() as folder:
         sides = Sides([sys.executable, str(HERE.parent / "rules.py")], oracle, folder)
         answers = [c.rust for c in sides.compared(cases)]
@@ -92,4 +94,4 @@ def main(oracle):
     print(f"{len(cases)} cases, {len(named)} of them named")
 
 
-main(sys.argv[1])
+main(*sys.argv[1:])

@@ -97,10 +97,13 @@ def marking(r, idr, off):
     return ["1"] + operations(r, (1, 2, 3, 4, 5, 6), [0, 1, 1, 2, 1, 0, 1], 0, count, bad)
 
 
-def prefix_pieces(r, off):
+def prefix_pieces(r, extension, off):
     """A prefix unit's body under an SVC extension."""
-    out = [str(int(r.random() < 0.8))]
-    if out[0] == "1":
+    store, adaptive = int(r.random() < 0.5), int(r.random() < 0.8)
+    out = [str(store)]
+    if (store or extension[2] & 0x10) and not extension[0] & 0x40:
+        out.append(str(adaptive))
+    if len(out) == 2 and adaptive:
         bad = beyond(r, 2) if off in ("marking", "modification") else None
         count = length(r, off) or int(bad is not None)
         if bad is not None and r.random() < 0.1:

@@ -116,7 +116,7 @@ def drawn_unit(r, table):
     if x < 0.12:
         kind, ext = 14, extension(r)
         ext = bytes([ext[0] | 0x80]) + ext[1:] if r.random() < 0.8 else ext
-        pieces = prefix_pieces(r, off)
+        pieces = prefix_pieces(r, ext, off)
     else:
         kind = r.choice((1, 1, 1, 5, 5, 20, 21))
         ext = extension(r) if kind >= 20 else b""

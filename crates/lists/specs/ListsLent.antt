@@ -47,6 +47,7 @@ abbrev pub prefixShort : Prefix → PrefixShort
 prefixShort p =
     record {
       «store_ref_base_pic_flag» = p .«store_ref_base_pic_flag»;
+      «adaptive_ref_base_pic_marking_mode_flag» = p .«adaptive_ref_base_pic_marking_mode_flag»;
       «base_markings» = p .«base_marking» .count;
       «additional_prefix_nal_unit_extension_flag» = p .«additional_prefix_nal_unit_extension_flag»;
     }

@@ -10,17 +10,20 @@ use bits::refusals::LIST_FULL;
 use bits::refusals::Refusal;
 use bits::refusals::no_refusal;
 use bits::refusals::refuse_at;
+use fields::conditions::both;
+use fields::conditions::either;
 use fields::read::flag_if;
 use fields::read::given;
 use fields::read::tested;
 use fields::step::FlagStep;
 use fields::step::why_flag;
+use syntax::context::PrefixKind;
 use syntax::marks::MarkedFlag;
 ghost use mathlib.Core.Path.{_≡_};
 ghost use lib.ListN.{replicate};
 ghost use Rattle.bits.specs.Bits.{bitsOf};
 ghost use Rattle.syntax.specs.Lists.{operations, operationsIf};
-ghost use Rattle.syntax.specs.Prefix.{baseMarkingKind, prefix};
+ghost use Rattle.syntax.specs.Prefix.{baseMarkingKind, hasBaseMarking, prefix};
 ghost use Rattle.lists.specs.Kinds.{kindOf};
 ghost use Rattle.lists.specs.Leaves.{Written};
 ghost use Rattle.lists.specs.ListsLent.{listWords, listStep, listLeft, whyList, atMost66, emptiedList, prefixStep, prefixLeft};
@@ -134,6 +137,7 @@ pub fn operations_into(
 #[repr(C)]
 pub struct PrefixShort {
     pub store_ref_base_pic_flag: MarkedFlag,
+    pub adaptive_ref_base_pic_marking_mode_flag: MarkedFlag,
     pub base_markings: u32,
     pub additional_prefix_nal_unit_extension_flag: MarkedFlag,
 }
@@ -154,31 +158,44 @@ fn base_marking_kind() -> ListKind
     }
 }
 
-// The body of a prefix unit, there only under a condition. Words that hold no entry of its list are zeros, and so are all beside a refusal.
-pub fn prefix_into(s: &[u8], c: Cursor, there: bool, words: &mut [u32; 198]) -> PrefixStep
-    ensures { λ r. ⌜ r ≡ prefixStep (prefix there .read (bitsOf (now (s .entry))) (c .at)) ⌝ }
-    ensures { λ r. ⌜ now (words .exit) ≡ prefixLeft (prefix there .read (bitsOf (now (s .entry))) (c .at)) ⌝ }
+// dec_ref_base_pic_marking( ) is there.
+fn has_base_marking(kind: PrefixKind, store: bool) -> bool
+    ensures { λ r. ⌜ r ≡ hasBaseMarking kind store ⌝ }
+{
+    let marks = both(either(kind.use_ref_base_pic_flag, store), !kind.idr_flag);
+    both(kind.there, marks)
+}
+
+// The body of a prefix unit, by what its first bytes say of it. Words that hold no entry of its list are zeros, and so are all beside a refusal.
+pub fn prefix_into(s: &[u8], c: Cursor, kind: PrefixKind, words: &mut [u32; 198]) -> PrefixStep
+    ensures { λ r. ⌜ r ≡ prefixStep (prefix kind .read (bitsOf (now (s .entry))) (c .at)) ⌝ }
+    ensures { λ r. ⌜ now (words .exit) ≡ prefixLeft (prefix kind .read (bitsOf (now (s .entry))) (c .at)) ⌝ }
 {
     clear_list(words);
-    let a1 = flag_if(s, c, there);
+    let a1 = flag_if(s, c, kind.there);
     let FlagStep::Got(store, c1) = a1 else {
         return PrefixStep::Refused(why_flag(a1));
     };
-    let a2 = operations_into(s, c1, store.value, base_marking_kind(), words);
-    let ListStep::Got(count, c2) = a2 else {
-        return PrefixStep::Refused(why_list(a2));
+    let a2 = flag_if(s, c1, has_base_marking(kind, store.value));
+    let FlagStep::Got(adaptive, c2) = a2 else {
+        return PrefixStep::Refused(why_flag(a2));
     };
-    let a3 = flag_if(s, c2, there);
-    let FlagStep::Got(more, c3) = a3 else {
+    let a3 = operations_into(s, c2, adaptive.value, base_marking_kind(), words);
+    let ListStep::Got(count, c3) = a3 else {
+        return PrefixStep::Refused(why_list(a3));
+    };
+    let a4 = flag_if(s, c3, kind.there);
+    let FlagStep::Got(more, c4) = a4 else {
         clear_list(words);
-        return PrefixStep::Refused(why_flag(a3));
+        return PrefixStep::Refused(why_flag(a4));
     };
     PrefixStep::Got(
         PrefixShort {
             store_ref_base_pic_flag: store,
+            adaptive_ref_base_pic_marking_mode_flag: adaptive,
             base_markings: count,
             additional_prefix_nal_unit_extension_flag: more,
         },
-        c3,
+        c4,
     )
 }

@@ -18,6 +18,7 @@ use Rattle.escape.specs.Body.{body}
 use Rattle.table.specs.declared.table.Table.{Table}
 use Rattle.table.specs.declared.words.Changed.{Changed}
 use Rattle.syntax.specs.declared.context.UnitKind.{UnitKind}
+use Rattle.syntax.specs.declared.context.PrefixKind.{PrefixKind}
 use Rattle.syntax.specs.declared.record.SliceHeader.{SliceHeader}
 use Rattle.syntax.specs.declared.record.Prefix.{Prefix}
 use Rattle.syntax.specs.SliceHeader.{readHeader}
@@ -70,7 +71,7 @@ refused-fine r k = (refl, k)
 
 abbrev Begins : Begun → Type 0
 Begins (Begun.Slice kind from) = Unit {0}
-Begins (Begun.«Prefix» there) = Unit {0}
+Begins (Begun.«Prefix» kind) = Unit {0}
 Begins (Begun.Other id) = Unit {0}
 Begins (Begun.Refused r) = Placed (r .«has_bit») (r .number)
 
@@ -106,9 +107,9 @@ module _ (t : Table) (unit scratch : List ℕ) where
   unfolding sliceBits
   slice-bits kind s = slice-fine (readHeader t kind s) (header-known t kind s)
 
-  prefix-bits : (there : Bool) (s : Bits) → Fine (prefixBits there s)
+  prefix-bits : (kind : PrefixKind) (s : Bits) → Fine (prefixBits kind s)
   unfolding prefixBits
-  prefix-bits there s = prefix-fine (prefix there .read s 0) (prefix-known there s)
+  prefix-bits kind s = prefix-fine (prefix kind .read s 0) (prefix-known kind s)
 
   pub unit-fine : Fine (unitRead t unit scratch .read)
   unfolding unitRead
@@ -116,7 +117,7 @@ module _ (t : Table) (unit scratch : List ℕ) where
     where
       go : (b : Begun) → Begins b → Fine (afterBegin t unit scratch b .read)
       go (Begun.Slice kind from) k = in-body (sliceBits t kind) from (slice-bits kind)
-      go (Begun.«Prefix» there) k = in-body (prefixBits there) 4 (prefix-bits there)
+      go (Begun.«Prefix» kind) k = in-body (prefixBits kind) 4 (prefix-bits kind)
       go (Begun.Other id) k = other-fine id
       go (Begun.Refused r) k = refused-fine r k
 
@@ -130,7 +131,7 @@ module _ (t : Table) (unit scratch : List ℕ) where
     where
       go : (b : Begun) → afterBegin t unit scratch b .left ≡ leftBy b unit scratch
       go (Begun.Slice kind from) = body-left _ from
-      go (Begun.«Prefix» there) = body-left _ 4
+      go (Begun.«Prefix» kind) = body-left _ 4
       go (Begun.Other id) = refl
       go (Begun.Refused r) = refl
 

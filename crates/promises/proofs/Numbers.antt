@@ -13,6 +13,7 @@ use Rattle.fmt.specs.Fmt.{Fmt, nothing, seq, shaped, test, when, times, until}
 use Rattle.fmt.specs.Leaves.{flag, u, ue, se}
 use Rattle.table.specs.declared.table.Table.{Table}
 use Rattle.syntax.specs.declared.context.UnitKind.{UnitKind}
+use Rattle.syntax.specs.declared.context.PrefixKind.{PrefixKind}
 use Rattle.syntax.specs.declared.context.Context.{Context}
 use Rattle.syntax.specs.Marks.{isZero, isZeroZ, numberIf, signedIf, flagIf, given}
 use Rattle.syntax.specs.Lists.{Kind, entries, noOperations, isNoOperations, code, operands, operations, operationsIf}
@@ -265,7 +266,12 @@ pub header-known : (t : Table) (n : UnitKind) (s : Bits) → Known (readHeader t
 unfolding readHeader
 header-known t n s = after (header t n .read s 0) _ (header-gives t n .known s 0) (λ h e. by-test (anySet (drop (e + 1) s)) _ _ tt (tt, refl))
 
-pub prefix-known : (there : Bool) (s : Bits) → Known (prefix there .read s 0)
+pub prefix-known : (k : PrefixKind) (s : Bits) → Known (prefix k .read s 0)
 unfolding prefix
-prefix-known there s =
-    shaped-gives _ _ _ _ (then (flagIf-gives there) (λ store. then (operationsIf-gives (store .value) baseMarkingKind (tt, refl)) (λ base. flagIf-gives there))) .known s 0
+prefix-known k s =
+    shaped-gives _ _ _ _
+    (then (flagIf-gives _) (λ store.
+    then (flagIf-gives _) (λ adaptive.
+    then (operationsIf-gives _ baseMarkingKind (tt, refl)) (λ base.
+    flagIf-gives _))))
+    .known s 0

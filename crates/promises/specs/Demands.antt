@@ -40,7 +40,7 @@ bodyLeft unit from scratch = pick (leb (length unit) (length scratch)) (startWit
 
 abbrev pub leftBy : Begun → List ℕ → List ℕ → List ℕ
 leftBy (Begun.Slice kind from) unit scratch = bodyLeft unit from scratch
-leftBy (Begun.«Prefix» there) unit scratch = bodyLeft unit 4 scratch
+leftBy (Begun.«Prefix» kind) unit scratch = bodyLeft unit 4 scratch
 leftBy (Begun.Other id) unit scratch = scratch
 leftBy (Begun.Refused r) unit scratch = scratch
 

@@ -22,6 +22,7 @@ use Rattle.syntax.specs.SliceHeader.{isNoWeight, header}
 use Rattle.weights.specs.Counts.{atMost32}
 use Rattle.syntax.proofs.Goods.{seq-first, seq-rest, shaped-from}
 use Rattle.syntax.specs.declared.context.UnitKind.{UnitKind}
+use Rattle.syntax.specs.declared.context.PrefixKind.{PrefixKind}
 use Rattle.syntax.specs.declared.marks.MarkedFlag.{MarkedFlag}
 use Rattle.syntax.specs.declared.marks.MarkedNumber.{MarkedNumber}
 use Rattle.syntax.specs.declared.record.SliceHeader.{SliceHeader}
@@ -302,6 +303,6 @@ pub prefix-from : (p : Prefix) (b : List ℕ) → T (okOperations (p .«base_mar
 unfolding prefixFrom
 prefix-from p b t e = rw (operations-from-in (p .«base_marking») b t e)
 
-pub prefix-from-in : (there : Bool) (p : Prefix) (b : List ℕ) → T (prefix there .good p) → length b ≡ 198 → prefixFrom (prefixShort p) (sets b 0 (listWords (p .«base_marking»))) ≡ p
+pub prefix-from-in : (k : PrefixKind) (p : Prefix) (b : List ℕ) → T (prefix k .good p) → length b ≡ 198 → prefixFrom (prefixShort p) (sets b 0 (listWords (p .«base_marking»))) ≡ p
 unfolding prefix
-prefix-from-in there p b g = prefix-from p b (operationsIf-ok _ _ (p .«base_marking») (seq-first _ _ _ (seq-rest _ _ _ (shaped-from _ _ _ _ p g))))
+prefix-from-in k p b g = prefix-from p b (operationsIf-ok _ _ (p .«base_marking») (seq-first _ _ _ (seq-rest _ _ _ (seq-rest _ _ _ (shaped-from _ _ _ _ p g)))))

@@ -62,6 +62,7 @@ unfoldable pub prefixFrom : PrefixShort → List ℕ → Prefix
 prefixFrom p base =
     record {
       «store_ref_base_pic_flag» = p .«store_ref_base_pic_flag»;
+      «adaptive_ref_base_pic_marking_mode_flag» = p .«adaptive_ref_base_pic_marking_mode_flag»;
       «base_marking» = operationsFrom (p .«base_markings») base;
       «additional_prefix_nal_unit_extension_flag» = p .«additional_prefix_nal_unit_extension_flag»;
     }

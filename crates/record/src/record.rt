@@ -87,9 +87,11 @@ pub fn prefix_of(p: PrefixShort, base: &[u32; 198]) -> Prefix
     ensures { λ r. ⌜ r ≡ prefixFrom p (now (base .entry)) ⌝ }
 {
     let store = p.store_ref_base_pic_flag;
+    let adaptive = p.adaptive_ref_base_pic_marking_mode_flag;
     let more = p.additional_prefix_nal_unit_extension_flag;
     Prefix {
         store_ref_base_pic_flag: store,
+        adaptive_ref_base_pic_marking_mode_flag: adaptive,
         base_marking: operations_of(p.base_markings, base),
         additional_prefix_nal_unit_extension_flag: more,
     }

@@ -11,6 +11,7 @@ use Rattle.fmt.specs.Leaves.{ue}
 use Rattle.fmt.proofs.Sizes.{Short, ue-short, shaped-short, when-short}
 use Rattle.table.specs.declared.table.Table.{Table}
 use Rattle.syntax.specs.declared.context.UnitKind.{UnitKind}
+use Rattle.syntax.specs.declared.context.PrefixKind.{PrefixKind}
 use Rattle.syntax.specs.declared.context.Context.{Context}
 use Rattle.syntax.specs.declared.record.ActiveCounts.{ActiveCounts}
 use Rattle.syntax.specs.declared.record.PredWeightTable.{PredWeightTable}
@@ -123,11 +124,14 @@ decRefPicMarking-within x =
     seq-within (short-within (flagIf-short _)) (λ adaptive.
     operationsIf-within markingKind 126 (omega arith) marking-operands _))))) (λ d. omega arith)
 
-pub prefix-short : (there : Bool) → Short (prefix there) 4495
+pub prefix-short : (k : PrefixKind) → Short (prefix k) 4496
 unfolding prefix
-prefix-short there =
+prefix-short k =
     shaped-short _ _ _ _ _
-    (then (flagIf-short there) (λ store. then (operationsIf-short baseMarkingKind 63 (omega arith) base-operands _) (λ base-marking. flagIf-short there)))
+    (then (flagIf-short _) (λ store-ref-base-pic-flag.
+    then (flagIf-short _) (λ adaptive.
+    then (operationsIf-short baseMarkingKind 63 (omega arith) base-operands _) (λ base-marking.
+    flagIf-short _))))
 
 -- ---- the whole
 

@@ -10,6 +10,7 @@ use Rattle.fmt.proofs.Lawful.{Lawful}
 use Rattle.fmt.proofs.Combinators.{seq-lawful, seq-lawful-good, shaped-lawful}
 use Rattle.table.specs.declared.table.Table.{Table}
 use Rattle.syntax.specs.declared.context.UnitKind.{UnitKind}
+use Rattle.syntax.specs.declared.context.PrefixKind.{PrefixKind}
 use Rattle.syntax.specs.declared.context.Context.{Context}
 use Rattle.syntax.specs.declared.marks.MarkedNumber.{MarkedNumber}
 use Rattle.syntax.specs.Context.{sequenceIdFor, contextFor}
@@ -55,6 +56,6 @@ header-lawful t n =
     (λ v g. (refl, eqb-refl (sequenceIdFor t (v .0 .1 .1))))
     (seq-lawful _ _ (lead-lawful t) (λ l. context-lawful t n (l .1 .1) (l .1 .0)))
 
-pub prefix-lawful : (there : Bool) → Lawful (prefix there)
+pub prefix-lawful : (k : PrefixKind) → Lawful (prefix k)
 unfolding prefix
-prefix-lawful there = shaped-lawful _ _ _ _ (λ b t. refl) (λ a g. (refl, tt)) (search (seq-lawful, flagIf-lawful, operationsIf-lawful) depth 9)
+prefix-lawful k = shaped-lawful _ _ _ _ (λ b t. refl) (λ a g. (refl, tt)) (search (seq-lawful, flagIf-lawful, operationsIf-lawful) depth 12)

@@ -103,4 +103,10 @@ noHeader =
     }
 
 abbrev pub noPrefix : Prefix
-noPrefix = record { «store_ref_base_pic_flag» = noFlag; «base_marking» = noOperations; «additional_prefix_nal_unit_extension_flag» = noFlag }
+noPrefix =
+    record {
+      «store_ref_base_pic_flag» = noFlag;
+      «adaptive_ref_base_pic_marking_mode_flag» = noFlag;
+      «base_marking» = noOperations;
+      «additional_prefix_nal_unit_extension_flag» = noFlag;
+    }

@@ -1,4 +1,4 @@
-// What the header's syntax depends on, outside the header: the unit's first byte and extension, and the sets that the header names.
+// What the syntax of a header and of a prefix unit depends on, outside the body: the unit's first byte and extension, and the sets that the header names.
 use table::sets::Picture;
 use table::sets::Sequence;
 
@@ -13,6 +13,16 @@ pub struct UnitKind {
     pub mvc: bool,
     // types 20 and 21 with the extension's top bit set
     pub svc: bool,
+}
+
+// What the first byte and the extension of a prefix unit say of its body.
+#[repr(C)]
+pub struct PrefixKind {
+    // the body is read: the extension is SVC, and nal_ref_idc is not 0
+    pub there: bool,
+    // the extension's, clear where it is MVC
+    pub use_ref_base_pic_flag: bool,
+    pub idr_flag: bool,
 }
 
 #[repr(C)]

@@ -133,6 +133,7 @@ pub struct SliceHeader {
 #[repr(C)]
 pub struct Prefix {
     pub store_ref_base_pic_flag: MarkedFlag,
+    pub adaptive_ref_base_pic_marking_mode_flag: MarkedFlag,
     pub base_marking: Operations,
     pub additional_prefix_nal_unit_extension_flag: MarkedFlag,
 }

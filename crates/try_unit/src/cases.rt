@@ -52,10 +52,69 @@ fn views() {
     );
 }
 
+fn prefixes() {
+    shown(b"a prefix of a view", b"\x6e\x40\x00\x07\xbf\xf0", 0, b"0");
+    shown(
+        b"a prefix that neither stores nor uses",
+        b"\x6e\x80\x00\x07\x7f\xe0",
+        0,
+        b"0",
+    );
+    shown(
+        b"a prefix that stores, sliding window",
+        b"\x6e\x80\x00\x07\xbf\xf0",
+        0,
+        b"0",
+    );
+    shown(
+        b"a prefix that uses, sliding window",
+        b"\x6e\x80\x00\x17\x3f\xf0",
+        0,
+        b"0",
+    );
+    shown(
+        b"a prefix of an IDR picture",
+        b"\x6e\xc0\x00\x17\xbf\xe0",
+        0,
+        b"0",
+    );
+    shown(
+        b"a base marking list of 0",
+        b"\x6e\x80\x00\x07\xff\xf8",
+        0,
+        b"0",
+    );
+    shown(
+        b"a base marking list of 66",
+        b"\x6e\x80\x00\x07\xd5\x55\x55\x55\x55\x55\x55\x55\x55\x55\x55\x55\x55\x55\x55\x55\x55\x55\x55\x55\x55\x55\x55\x55\x55\x55\x55\x55\x55\x55\x55\x55\x55\x7f\xf8",
+        0,
+        b"0",
+    );
+    shown(
+        b"a base marking list of 67",
+        b"\x6e\x80\x00\x07\xd5\x55\x55\x55\x55\x55\x55\x55\x55\x55\x55\x55\x55\x55\x55\x55\x55\x55\x55\x55\x55\x55\x55\x55\x55\x55\x55\x55\x55\x55\x55\x55\x55\x57\xff\x80",
+        0,
+        b"0",
+    );
+    shown(
+        b"a base marking operation 2",
+        b"\x6e\x80\x00\x17\x59\xaf\xf8",
+        0,
+        b"0",
+    );
+    shown(
+        b"a base marking operation 3",
+        b"\x6e\x80\x00\x17\x48\x6f\xf8",
+        3,
+        b"3",
+    );
+}
+
 pub(crate) fn all() {
     active_counts();
     levels();
     deblocking();
     lists();
     views();
+    prefixes();
 }

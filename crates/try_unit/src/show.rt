@@ -1,6 +1,8 @@
 // A unit read with the sample sets, and a picture set 1 with deblocking control: its answer as text.
 use bits::refusals::Refusal;
 use libc::STDOUT_FILENO;
+use syntax::marks::MarkedFlag;
+use syntax::record::Prefix;
 use syntax::record::SliceHeader;
 use table::sets::Picture;
 use table::sets::Sequence;
@@ -67,6 +69,7 @@ pub(crate) fn shown(name: &[u8], bytes: &[u8], value: i64, said: &[u8]) {
     let r = read_unit_in(&t.sequences, &t.pictures, bytes, &mut scratch);
     let answer = r.answer;
     let h = r.header;
+    let p = r.prefix;
     text(name);
     match answer {
         UnitAnswer::Slice(n) => {
@@ -74,7 +77,7 @@ pub(crate) fn shown(name: &[u8], bytes: &[u8], value: i64, said: &[u8]) {
             io::print_decimal(STDOUT_FILENO, n as u64);
             header(h);
         }
-        UnitAnswer::Prefix => text(b": prefix"),
+        UnitAnswer::Prefix => prefix(p),
         UnitAnswer::Other(_) => text(b": other"),
         UnitAnswer::Refused(x) => {
             field(b": refused ", x.number as u32);
@@ -110,4 +113,22 @@ fn header(h: SliceHeader) {
     field(b" active=", n.value);
     field(b" mods=", o.count);
     field(b" idc=", idc.value);
+}
+
+fn flag(name: &[u8], f: MarkedFlag) {
+    if f.there {
+        field(name, f.value as u32);
+    }
+}
+
+fn prefix(p: Prefix) {
+    let store = p.store_ref_base_pic_flag;
+    let adaptive = p.adaptive_ref_base_pic_marking_mode_flag;
+    let base = p.base_marking;
+    let more = p.additional_prefix_nal_unit_extension_flag;
+    text(b": prefix");
+    flag(b" store=", store);
+    flag(b" adaptive=", adaptive);
+    field(b" base=", base.count);
+    flag(b" more=", more);
 }

@@ -23,7 +23,7 @@ use Rattle.unit.specs.Unit.{untouched, inBody, afterBegin, unitRead}
 -- whether the body is read
 abbrev pub isRead : Begun → Bool
 isRead (Begun.Slice kind from) = true
-isRead (Begun.«Prefix» there) = true
+isRead (Begun.«Prefix» kind) = true
 isRead (Begun.Other id) = false
 isRead (Begun.Refused r) = false
 
@@ -70,7 +70,7 @@ module _ (t : Table) (unit scratch : List ℕ) where
     where
       go : (b : Begun) → isRead b ≡ true → afterBegin t unit scratch b ≡ untouched (UnitAnswer.Refused (refusal bufferTooShort (pos (length unit)))) scratch
       go (Begun.Slice kind from) g = body-short _ unit from scratch h
-      go (Begun.«Prefix» there) g = body-short _ unit 4 scratch h
+      go (Begun.«Prefix» kind) g = body-short _ unit 4 scratch h
       go (Begun.Other id) g = absurd (true≢false (sym g))
       go (Begun.Refused r) g = absurd (true≢false (sym g))
 
@@ -81,7 +81,7 @@ module _ (t : Table) (unit scratch : List ℕ) where
     where
       go : (b : Begun) → isRead b ≡ false → afterBegin t unit scratch b .left ≡ scratch
       go (Begun.Slice kind from) g = absurd (true≢false g)
-      go (Begun.«Prefix» there) g = absurd (true≢false g)
+      go (Begun.«Prefix» kind) g = absurd (true≢false g)
       go (Begun.Other id) g = refl
       go (Begun.Refused r) g = refl
 
@@ -92,7 +92,7 @@ module _ (t : Table) (unit scratch : List ℕ) where
     where
       go : (b : Begun) → length (afterBegin t unit scratch b .left) ≡ length scratch
       go (Begun.Slice kind from) = body-left _ unit from scratch
-      go (Begun.«Prefix» there) = body-left _ unit 4 scratch
+      go (Begun.«Prefix» kind) = body-left _ unit 4 scratch
       go (Begun.Other id) = refl
       go (Begun.Refused r) = refl
 

@@ -1,7 +1,6 @@
 -- A unit read into lent words: each body's answer and what it leaves in the words, and the words cleared after a refusal.
 use Prim.Native.Nat.{ℕ}
 use mathlib.Core.Path.{_≡_, refl, ap, _∙_}
-use mathlib.Core.Bool.{Bool}
 use mathlib.Core.List.{List}
 use native.Mathlib.Omega.{arith}
 use lib.ListN.{replicate}
@@ -10,6 +9,7 @@ use Rattle.bits.specs.Refusals.{Res, got, no}
 use Rattle.bits.specs.declared.refusals.Refusal.{Refusal}
 use Rattle.table.specs.declared.table.Table.{Table}
 use Rattle.syntax.specs.declared.context.UnitKind.{UnitKind}
+use Rattle.syntax.specs.declared.context.PrefixKind.{PrefixKind}
 use Rattle.syntax.specs.declared.record.SliceHeader.{SliceHeader}
 use Rattle.syntax.specs.declared.record.Prefix.{Prefix}
 use Rattle.syntax.specs.SliceHeader.{readHeader}
@@ -53,12 +53,12 @@ body-held (got p e) b k q h = rw k (refl, rw q)
 body-held (no r) b k q h = rw k (refl, tt)
 
 module _ {o : UnitOut} {left : List ℕ} where
-  pub body-taken : (there : Bool) (s : Bits) → o ≡ record { read = prefixBits there s; left = left } → (b : List ℕ) {a : PrefixStep} {r : ShortAnswer} {w : List ℕ}
-      → a ≡ prefixStep (prefix there .read s 0) → w ≡ prefixLeft (prefix there .read s 0) → r ≡ bodyShort a
+  pub body-taken : (kind : PrefixKind) (s : Bits) → o ≡ record { read = prefixBits kind s; left = left } → (b : List ℕ) {a : PrefixStep} {r : ShortAnswer} {w : List ℕ}
+      → a ≡ prefixStep (prefix kind .read s 0) → w ≡ prefixLeft (prefix kind .read s 0) → r ≡ bodyShort a
       → (h : HeaderWords) → Taken o r left (record { header = h; base = b }) (record { header = h; base = w })
   unfolding prefixBits
-  body-taken there s e b p q k h =
-      let l = body-held (prefix there .read s 0) b p q h in
+  body-taken kind s e b p q k h =
+      let l = body-held (prefix kind .read s 0) b p q h in
       rw (e, k) (record { answered = l .0; left = refl; held = l .1 })
 
   -- ---- no body

@@ -15,6 +15,7 @@ use Rattle.fmt.specs.Arrays.{pad}
 use Rattle.fmt.proofs.Any.{exact-at}
 use Rattle.escape.specs.Body.{body, startWith}
 use Rattle.table.specs.declared.table.Table.{Table}
+use Rattle.syntax.specs.declared.context.PrefixKind.{PrefixKind}
 use Rattle.syntax.specs.declared.record.SliceHeader.{SliceHeader}
 use Rattle.syntax.specs.declared.record.Prefix.{Prefix}
 use Rattle.syntax.specs.Absent.{noHeader, noPrefix}
@@ -47,11 +48,11 @@ unfolding only
 slice-ordered (got h e) f = (f h e refl, refl)
 slice-ordered (no r) f = (refl, refl)
 
-prefix-good : (there : Bool) (s : Bits) (p : Prefix) (e : ℕ) → prefix there .read s 0 ≡ got p e → T (okOperations (p .«base_marking»))
+prefix-good : (k : PrefixKind) (s : Bits) (p : Prefix) (e : ℕ) → prefix k .read s 0 ≡ got p e → T (okOperations (p .«base_marking»))
 unfolding prefix
-prefix-good there s p e r =
-    let g = exact-at (prefix there) (prefix-lawful there) s 0 p e (omega arith) r .is-good in
-    operationsIf-ok _ _ _ (seq-first _ _ _ (seq-rest _ _ _ (shaped-from _ _ _ _ p g)))
+prefix-good k s p e r =
+    let g = exact-at (prefix k) (prefix-lawful k) s 0 p e (omega arith) r .is-good in
+    operationsIf-ok _ _ _ (seq-first _ _ _ (seq-rest _ _ _ (seq-rest _ _ _ (shaped-from _ _ _ _ p g))))
 
 prefix-ordered : (m : Res Prefix) → ((p : Prefix) (e : ℕ) → m ≡ got p e → T (okOperations (p .«base_marking»))) → Ordered (prefixAnswer m .answer) (prefixAnswer m)
 unfolding only
@@ -79,7 +80,7 @@ unit-ordered t unit scratch = go (begun unit)
   where
     go : (b : Begun) → Ordered (afterBegin t unit scratch b .read .answer) (afterBegin t unit scratch b .read)
     go (Begun.Slice kind from) = body-ordered (sliceBits t kind) unit from scratch (λ s. slice-ordered _ (read-in-order t kind s))
-    go (Begun.«Prefix» there) = body-ordered (prefixBits there) unit 4 scratch (λ s. prefix-ordered _ (prefix-good there s))
+    go (Begun.«Prefix» kind) = body-ordered (prefixBits kind) unit 4 scratch (λ s. prefix-ordered _ (prefix-good kind s))
     go (Begun.Other id) = (refl, refl)
     go (Begun.Refused r) = (refl, refl)
 

@@ -1,7 +1,7 @@
 -- What a unit's first bytes say of its body, with the rules' refusals before the body: 27, 1, 2, units of other types, 4.
 use Prim.Native.Nat.{ℕ}
 use mathlib.Core.List.{List}
-use mathlib.Core.Bool.{Bool, not, _&&_, _||_}
+use mathlib.Core.Bool.{Bool, false, not, _||_}
 use lib.Dec.{leb, eqb}
 use lib.IntN.{pos}
 use lib.ListN.{length}
@@ -12,8 +12,9 @@ use Rattle.nal.specs.declared.extension.NalHeaderExtension.{NalHeaderExtension}
 use Rattle.nal.specs.declared.extension.ExtensionRead.{ExtensionRead}
 use Rattle.nal.specs.Header.{nalRefIdc, nalUnitType, headerOf}
 use Rattle.nal.specs.UnitType.{idOf}
-use Rattle.nal.specs.Extension.{extensionOf}
-use Rattle.header.specs.Kinds.{isMvc, kindOf}
+use Rattle.nal.specs.Extension.{extensionOf, idrFlag, useRefBasePicFlag}
+use Rattle.syntax.specs.declared.context.PrefixKind.{PrefixKind}
+use Rattle.header.specs.Kinds.{kindOf}
 use Rattle.unit.specs.declared.begin.Begun.{Begun}
 
 -- what stands for the extension of a unit that has none; types 1 and 5 make no use of it
@@ -30,9 +31,14 @@ isPlain t = eqb t 1 || eqb t 5
 abbrev pub hasExtension : ℕ → Bool
 hasExtension t = eqb t 14 || (eqb t 20 || eqb t 21)
 
--- with the extension: the body starts after four bytes; that of a prefix unit is read where the extension is SVC and nal_ref_idc is not 0
+-- the body of a prefix unit is read where the extension is SVC and nal_ref_idc is not 0
+unfoldable pub prefixKind : NalHeader → NalHeaderExtension → PrefixKind
+prefixKind h (NalHeaderExtension.Mvc m) = record { there = false; «use_ref_base_pic_flag» = false; «idr_flag» = false }
+prefixKind h (NalHeaderExtension.Svc v) = record { there = not (eqb (nalRefIdc h) 0); «use_ref_base_pic_flag» = useRefBasePicFlag v; «idr_flag» = idrFlag v }
+
+-- with the extension: the body starts after four bytes
 unfoldable pub extended : NalHeader → NalHeaderExtension → Begun
-extended h e = pick (eqb (typeIn h) 14) (Begun.«Prefix» (not (isMvc e) && not (eqb (nalRefIdc h) 0))) (Begun.Slice (kindOf h e) 4)
+extended h e = pick (eqb (typeIn h) 14) (Begun.«Prefix» (prefixKind h e)) (Begun.Slice (kindOf h e) 4)
 
 -- 4, passed on, or the extension
 abbrev pub withExtension : NalHeader → ExtensionRead → Begun

@@ -1,7 +1,6 @@
 -- Reading a whole unit, as docs/RULES.md has it ('Refusal numbers', 'Units and bodies', 'Prefix unit').
 use Prim.Native.Nat.{ℕ}
 use mathlib.Core.List.{List}
-use mathlib.Core.Bool.{Bool}
 use lib.Dec.{leb}
 use lib.IntN.{pos}
 use lib.ListN.{length, drop}
@@ -10,6 +9,7 @@ use Rattle.bits.specs.Bits.{Bits, bytesBits}
 use Rattle.escape.specs.Body.{body, startWith}
 use Rattle.table.specs.declared.table.Table.{Table}
 use Rattle.syntax.specs.declared.context.UnitKind.{UnitKind}
+use Rattle.syntax.specs.declared.context.PrefixKind.{PrefixKind}
 use Rattle.syntax.specs.SliceHeader.{readHeader}
 use Rattle.syntax.specs.Prefix.{prefix}
 use Rattle.unit.specs.declared.answer.UnitAnswer.{UnitAnswer}
@@ -38,12 +38,12 @@ inBody reads unit from scratch =
 unfoldable pub sliceBits : Table → UnitKind → Bits → UnitRead
 sliceBits t kind s = sliceAnswer (readHeader t kind s)
 
-unfoldable pub prefixBits : Bool → Bits → UnitRead
-prefixBits there s = prefixAnswer (prefix there .read s 0)
+unfoldable pub prefixBits : PrefixKind → Bits → UnitRead
+prefixBits kind s = prefixAnswer (prefix kind .read s 0)
 
 abbrev pub afterBegin : Table → List ℕ → List ℕ → Begun → UnitOut
 afterBegin t unit scratch (Begun.Slice kind from) = inBody (sliceBits t kind) unit from scratch
-afterBegin t unit scratch (Begun.«Prefix» there) = inBody (prefixBits there) unit 4 scratch
+afterBegin t unit scratch (Begun.«Prefix» kind) = inBody (prefixBits kind) unit 4 scratch
 afterBegin t unit scratch (Begun.Other id) = untouched (UnitAnswer.Other id) scratch
 afterBegin t unit scratch (Begun.Refused r) = untouched (UnitAnswer.Refused r) scratch
 

@@ -47,6 +47,7 @@ pub fn no_prefix() -> PrefixShort
     };
     PrefixShort {
         store_ref_base_pic_flag: absent,
+        adaptive_ref_base_pic_marking_mode_flag: absent,
         base_markings: 0,
         additional_prefix_nal_unit_extension_flag: absent,
     }

@@ -3,7 +3,6 @@ use bits::refusals::LIMIT;
 use bits::refusals::Refusal;
 use bits::refusals::TOO_LARGE;
 use bits::refusals::refuse;
-use fields::conditions::both;
 use fields::conditions::either;
 use header::kinds::kind_of;
 use nal::extension::ExtensionRead;
@@ -13,17 +12,16 @@ use nal::extension::extension_of;
 use nal::header::NalHeader;
 use nal::header::NalHeaderRead;
 use nal::header::header_of;
+use syntax::context::PrefixKind;
 use syntax::context::UnitKind;
-ghost use mathlib.Core.Bool.{not};
 ghost use mathlib.Core.Path.{_≡_};
-ghost use Rattle.header.specs.Kinds.{isMvc};
-ghost use Rattle.unit.specs.Begin.{absentExtension, hasExtension, extended, typed, begun};
+ghost use Rattle.unit.specs.Begin.{absentExtension, hasExtension, prefixKind, extended, typed, begun};
 
 pub enum Begun {
     // a slice, and the place where its body starts
     Slice(UnitKind, usize),
-    // a prefix unit, and whether its body is read
-    Prefix(bool),
+    // a prefix unit, whose body starts after four bytes
+    Prefix(PrefixKind),
     // a unit of another type
     Other(u8),
     Refused(Refusal),
@@ -40,12 +38,21 @@ fn absent_extension() -> NalHeaderExtension
     })
 }
 
-fn is_svc(e: NalHeaderExtension) -> bool
-    ensures { λ r. ⌜ r ≡ not (isMvc e) ⌝ }
+// The body of a prefix unit.
+fn prefix_kind(h: NalHeader, e: NalHeaderExtension) -> PrefixKind
+    ensures { λ r. ⌜ r ≡ prefixKind h e ⌝ }
 {
     match e {
-        NalHeaderExtension::Mvc(_) => false,
-        NalHeaderExtension::Svc(_) => true,
+        NalHeaderExtension::Mvc(_) => PrefixKind {
+            there: false,
+            use_ref_base_pic_flag: false,
+            idr_flag: false,
+        },
+        NalHeaderExtension::Svc(v) => PrefixKind {
+            there: h.nal_ref_idc() != 0,
+            use_ref_base_pic_flag: v.use_ref_base_pic_flag(),
+            idr_flag: v.idr_flag(),
+        },
     }
 }
 
@@ -61,7 +68,7 @@ fn extended(h: NalHeader, e: NalHeaderExtension) -> Begun
     ensures { λ r. ⌜ r ≡ extended h e ⌝ }
 {
     if h.type_id() == 14 {
-        return Begun::Prefix(both(is_svc(e), h.nal_ref_idc() != 0));
+        return Begun::Prefix(prefix_kind(h, e));
     }
     Begun::Slice(kind_of(h, e), 4)
 }

@@ -12,6 +12,7 @@ use lists::list_words::PrefixShort;
 use lists::list_words::PrefixStep;
 use lists::list_words::clear_list;
 use lists::list_words::prefix_into;
+use syntax::context::PrefixKind;
 use syntax::context::UnitKind;
 ghost use mathlib.Core.Path.{_≡_};
 ghost use mathlib.Core.List.{List};
@@ -88,12 +89,17 @@ fn slice_into<'a>(
 }
 
 // The body of a prefix unit, which goes to scratch.
-fn body_into(unit: &[u8], scratch: &mut [u8], there: bool, base: &mut [u32; 198]) -> ShortAnswer
+fn body_into(
+    unit: &[u8],
+    scratch: &mut [u8],
+    kind: PrefixKind,
+    base: &mut [u32; 198],
+) -> ShortAnswer
     requires { ⌜ length (now unit) ≤ limit ⌝ }
-    ensures { λ r. ⌜ ((h : HeaderWords) → Taken (inBody (prefixBits there) (now (unit .entry)) 4 (now (scratch .entry))) r (now (scratch .exit)) (record { header = h; base = now (base .entry) }) (record { header = h; base = now (base .exit) })) ⌝ }
+    ensures { λ r. ⌜ ((h : HeaderWords) → Taken (inBody (prefixBits kind) (now (unit .entry)) 4 (now (scratch .entry))) r (now (scratch .exit)) (record { header = h; base = now (base .entry) }) (record { header = h; base = now (base .exit) })) ⌝ }
 {
     match unescape(unit, 4, scratch) {
-        Body::Of(n) => body_short(prefix_into(&scratch[..n], Cursor { at: 0 }, there, base)),
+        Body::Of(n) => body_short(prefix_into(&scratch[..n], Cursor { at: 0 }, kind, base)),
         Body::Refused(r) => ShortAnswer::Refused(r),
     }
 }
@@ -131,7 +137,7 @@ fn take<'a>(
             w0,
             w1,
         ),
-        Begun::Prefix(there) => body_into(unit, scratch, there, base),
+        Begun::Prefix(kind) => body_into(unit, scratch, kind, base),
         Begun::Other(id) => ShortAnswer::Other(id),
         Begun::Refused(r) => ShortAnswer::Refused(r),
     }

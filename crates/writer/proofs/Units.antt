@@ -72,7 +72,7 @@ never-of q = absurd (let z : _≡_ {A = ℕ} 0 1 = (cc q) in omega arith)
 -- what begins as something else is no slice
 abbrev isSlice : Begun → Bool
 isSlice (Begun.Slice k from) = true
-isSlice (Begun.«Prefix» there) = false
+isSlice (Begun.«Prefix» kind) = false
 isSlice (Begun.Other id) = false
 isSlice (Begun.Refused r) = false
 
@@ -278,9 +278,9 @@ module _ (t : Table) (u scratch : List ℕ) where
         cases (leb (length u) (length scratch))
         (λ l. of-result q (readHeader t k (bodyBits (drop from u))) refl (rw l at a) (rw l at b))
         (λ l. never-answer (rw l at a) refl)
-    of-begun (Begun.«Prefix» there) q a b =
+    of-begun (Begun.«Prefix» kind) q a b =
         cases (leb (length u) (length scratch))
-        (λ l. never-answer (rw l at a) (no-slice (prefix there .read (bodyBits (drop 4 u)) 0)))
+        (λ l. never-answer (rw l at a) (no-slice (prefix kind .read (bodyBits (drop 4 u)) 0)))
         (λ l. never-answer (rw l at a) refl)
     of-begun (Begun.Other id) q a b = never-answer a refl
     of-begun (Begun.Refused r) q a b = never-answer a refl

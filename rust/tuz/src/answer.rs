@@ -44,7 +44,7 @@ pub trait Form {
 }
 
 /// Every name that a field can have, in reading order.
-pub const NAMES: [&str; 64] = [
+pub const NAMES: [&str; 65] = [
     "type",
     "refusal",
     "value",
@@ -67,6 +67,7 @@ pub const NAMES: [&str; 64] = [
     "discardable_flag",
     "output_flag",
     "store_ref_base_pic_flag",
+    "adaptive_ref_base_pic_marking_mode_flag",
     "base_mmco",
     "additional_prefix_nal_unit_extension_flag",
     "first_mb_in_slice",
@@ -295,7 +296,9 @@ impl<F: Form> Fields<'_, F> {
 
     fn prefix(&mut self, p: &PrefixShort, words: &Words) {
         self.flag_if("store_ref_base_pic_flag", p.store_ref_base_pic_flag);
-        if p.store_ref_base_pic_flag.value {
+        let adaptive = p.adaptive_ref_base_pic_marking_mode_flag;
+        self.flag_if("adaptive_ref_base_pic_marking_mode_flag", adaptive);
+        if adaptive.value {
             self.list("base_mmco", words.base_markings(p), |_| 1);
         }
         self.flag_if(
@@ -594,6 +597,7 @@ mod tests {
             ..ReadOut::default()
         };
         out.prefix.store_ref_base_pic_flag = flag;
+        out.prefix.adaptive_ref_base_pic_marking_mode_flag = flag;
         out.prefix.additional_prefix_nal_unit_extension_flag = flag;
 
         /// Where the last field stands in the list, and all that were met.

@@ -9,7 +9,7 @@ use std::process::Command;
 
 /// A recording with every kind of answer.
 fn mixed() -> Vec<u8> {
-    let prefix: &[u8] = &[0, 0, 1, 0x6E, 0x80, 0, 7, 0xA3, 0x40];
+    let prefix: &[u8] = &[0, 0, 1, 0x6E, 0x80, 0, 7, 0xD1, 0xA0];
     [&CLIP[..], prefix, &[0, 0, 1, 0xE5], &[0, 0, 1, 0x65, 0x88]].concat()
 }
 

@@ -23,7 +23,7 @@ pub struct PrefixNalUnit {
 pub struct PrefixNalUnitRef {
     /// `store_ref_base_pic_flag`
     pub store_ref_base_pic_flag: bool,
-    /// `dec_ref_base_pic_marking( )`
+    /// `dec_ref_base_pic_marking( )`: there where `use_ref_base_pic_flag` or `store_ref_base_pic_flag` is set and `idr_flag` is not.
     pub dec_ref_base_pic_marking: Option<DecRefBasePicMarking>,
     /// `additional_prefix_nal_unit_extension_flag`
     pub additional_prefix_nal_unit_extension_flag: bool,
@@ -34,7 +34,9 @@ pub struct PrefixNalUnitRef {
 #[cfg_attr(feature = "serde", derive(serde::Serialize))]
 #[non_exhaustive]
 pub struct DecRefBasePicMarking {
-    /// The operations in order, the closing 0 left out.
+    /// `adaptive_ref_base_pic_marking_mode_flag`
+    pub adaptive_ref_base_pic_marking_mode_flag: bool,
+    /// The operations in order, the closing 0 left out; none where the flag is clear.
     pub operations: Vec<DecRefBasePicMarkingOp>,
 }
 
@@ -55,12 +57,14 @@ pub enum DecRefBasePicMarkingOp {
 impl PrefixNalUnit {
     pub(crate) fn from_raw(unit: &[u8], p: &PrefixShort, words: &Words) -> PrefixNalUnit {
         let store = p.store_ref_base_pic_flag;
+        let adaptive = p.adaptive_ref_base_pic_marking_mode_flag;
         PrefixNalUnit {
             nal_header: NalHeader::from_byte(unit[0]),
             header_extension: NalHeaderExtension::from_bytes([unit[1], unit[2], unit[3]]),
             ref_base_pic: store.there.then(|| PrefixNalUnitRef {
                 store_ref_base_pic_flag: store.value,
-                dec_ref_base_pic_marking: store.value.then(|| DecRefBasePicMarking {
+                dec_ref_base_pic_marking: adaptive.there.then(|| DecRefBasePicMarking {
+                    adaptive_ref_base_pic_marking_mode_flag: adaptive.value,
                     operations: words
                         .base_markings(p)
                         .entries()

@@ -398,7 +398,7 @@ mod tests {
     /// A unit over the limit is read by no proved code: what the one before it left is gone all the same.
     #[test]
     fn too_long_leaves_nothing() {
-        let mut s = vec![0, 0, 1, 0x6E, 0x80, 0, 7, 0xA3, 0x40]; // a prefix unit with one base marking
+        let mut s = vec![0, 0, 1, 0x6E, 0x80, 0, 7, 0xD1, 0xA0]; // a prefix unit with one base marking
         s.extend([0, 0, 1].iter().chain(&[0x65; 30]));
         let mut stream = Stream::with(&s[..], 12, 20);
         let table = Table::new();

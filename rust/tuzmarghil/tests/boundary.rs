@@ -135,8 +135,8 @@ fn b_field() -> (Table, Vec<u8>, usize, Picture) {
 /// A prefix unit with base marking.
 fn prefix_unit() -> Vec<u8> {
     let mut b = Bits::default();
-    b.u(1, 1).ue(1).ue(61).ue(2).ue(62).ue(0).u(1, 1);
-    b.unit(&[0x6E, 0xD2, 0xA9, 0x74])
+    b.u(1, 1).u(1, 1).ue(1).ue(61).ue(2).ue(62).ue(0).u(1, 1);
+    b.unit(&[0x6E, 0x92, 0xA9, 0x74])
 }
 
 /// Entries of a list or of weights, over the front of words.
@@ -438,7 +438,7 @@ fn prefix_arrives() {
         other => panic!("{other:?}"),
     };
     let flags = (e.idr_flag(), e.no_inter_layer_pred_flag(), e.output_flag());
-    assert_eq!(flags, (true, true, true));
+    assert_eq!(flags, (false, true, true));
     assert_eq!(
         (e.priority_id(), e.dependency_id(), e.quality_id()),
         (18, 2, 9)
@@ -453,7 +453,40 @@ fn prefix_arrives() {
             long_term_base_pic_num: 62,
         },
     ];
-    assert_eq!(body.dec_ref_base_pic_marking.unwrap().operations, want);
+    let marking = body.dec_ref_base_pic_marking.unwrap();
+    assert!(marking.adaptive_ref_base_pic_marking_mode_flag);
+    assert_eq!(marking.operations, want);
+}
+
+/// What the extension says decides whether a prefix unit has a marking, and the marking's own flag whether it has a list.
+#[test]
+fn prefix_by_its_extension() {
+    // first byte and extension, the body's bits, and the flags: store, adaptive (there or not), additional
+    let cases = [
+        ([0x6E, 0x80, 0, 0x07], "01", (false, None, true)),
+        ([0x6E, 0x80, 0, 0x17], "001", (false, Some(false), true)),
+        ([0x6E, 0x80, 0, 0x07], "101", (true, Some(false), true)),
+        ([0x6E, 0xC0, 0, 0x17], "101", (true, None, false)),
+        ([0x6E, 0x80, 0, 0x17], "0111", (false, Some(true), true)),
+    ];
+    for (front, bits, want) in cases {
+        let mut b = Bits::default();
+        for bit in bits.bytes() {
+            b.u(1, u32::from(bit - b'0'));
+        }
+        let unit = b.unit(&front);
+        let Ok(Unit::Prefix(prefix)) = read_unit(&Table::new(), &unit, &mut Vec::new()) else {
+            panic!("{bits}");
+        };
+        let body = prefix.ref_base_pic.unwrap();
+        let marking = body.dec_ref_base_pic_marking;
+        let adaptive = marking.map(|m| {
+            assert_eq!(m.operations, []);
+            m.adaptive_ref_base_pic_marking_mode_flag
+        });
+        let more = body.additional_prefix_nal_unit_extension_flag;
+        assert_eq!((body.store_ref_base_pic_flag, adaptive, more), want);
+    }
 }
 
 /// The final QP and QS of an edited header, or by another set, wrap nowhere.
@@ -557,7 +590,7 @@ fn the_place_of_a_refusal() {
         ),
         (&sample, &long, Refusal::at(14, 0, 141)),
         (&sample, &[0x65, 0x88, 0x84, 0x80], Refusal::at(22, 0, 17)),
-        (&sample, &[0x6E, 0x80, 0, 7, 0x90], Refusal::at(23, 3, 1)),
+        (&sample, &[0x6E, 0x80, 0, 7, 0xC8], Refusal::at(23, 3, 2)),
         (&sample, &[0x6E, 0x80, 0, 7], Refusal::at(5, 0, 0)),
     ];
     for (table, unit, refusal) in cases {

@@ -17,10 +17,13 @@ fn a_unit_as_json() {
     assert_eq!(json(&[0x65])["Err"]["number"], 5);
     assert_eq!(json(&[0x65, 0x88])["Err"]["bit"], 8);
     assert!(json(&[])["Err"]["bit"].is_null());
-    let prefix = json(&[0x6E, 0x80, 0, 7, 0xA3, 0x40]);
+    let prefix = json(&[0x6E, 0x80, 0, 7, 0xD1, 0xA0]);
     let prefix = &prefix["Ok"]["Prefix"];
     assert_eq!(prefix["header_extension"]["Svc"]["output_flag"], true);
     assert_eq!(prefix["ref_base_pic"]["store_ref_base_pic_flag"], true);
+    let marking = &prefix["ref_base_pic"]["dec_ref_base_pic_marking"];
+    assert_eq!(marking["adaptive_ref_base_pic_marking_mode_flag"], true);
+    assert_eq!(marking["operations"].as_array().unwrap().len(), 1);
 }
 
 /// A set comes back, also where a later version has more fields.

@@ -7,18 +7,12 @@ use Rattle.unit.proofs.begin.extended.Tie as tie
 type-id-requires : tie.Need-type-id-requires
 type-id-requires c κs = search needs
 
-is-svc-requires : tie.Need-is-svc-requires
-is-svc-requires c κs = search needs
-
-nal-ref-idc-requires : tie.Need-nal-ref-idc-requires
-nal-ref-idc-requires c κs = search needs
-
-both-requires : tie.Need-both-requires
-both-requires c κs = search needs
+prefix-kind-requires : tie.Need-prefix-kind-requires
+prefix-kind-requires c κs = search needs
 
 returns : tie.Need-returns
 unfolding extended
-returns c = rw (c .both .ensures, c .before .before .is-svc .ensures, c .before .nal-ref-idc .ensures, ← c .before .before .before .before .type-id .ensures, eq-eqb _ _ (c .before .before .before .if1 .taken))
+returns c = rw (c .prefix-kind .ensures, ← c .before .before .type-id .ensures, eq-eqb _ _ (c .before .if1 .taken))
 
 kind-of-requires : tie.Need-kind-of-requires
 kind-of-requires c κs = search needs
@@ -32,9 +26,7 @@ extended-spec =
     tie.close
     (tie.spec
     type-id-requires
-    is-svc-requires
-    nal-ref-idc-requires
-    both-requires
+    prefix-kind-requires
     returns
     kind-of-requires
     returns-2)

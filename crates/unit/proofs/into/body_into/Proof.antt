@@ -36,7 +36,7 @@ returns c =
     let a = c .before .before .before .before .before .before .before .before .before .before .before .before .before .args in
     let u = c .before .before .before .before .before .before .before .before .before .unescape .ensures in
     let p = c .before .prefix-into .ensures in
-    body-taken _ _ (opened _ _ _ _ (c .before .before .before .before .before .before .before .before .before .before .before .before .before .pre) (u .1) (sym (c .before .before .before .before .before .n .given .1) ∙ u .0) (prefixBits (a .there))) (a .base .now) (p .0) (p .1) (c .body-short .ensures)
+    body-taken _ _ (opened _ _ _ _ (c .before .before .before .before .before .before .before .before .before .before .before .before .before .pre) (u .1) (sym (c .before .before .before .before .before .n .given .1) ∙ u .0) (prefixBits (a .kind))) (a .base .now) (p .0) (p .1) (c .body-short .ensures)
 
 same-length-2 : tie.Need-same-length-2
 same-length-2 c = search needs
@@ -44,7 +44,7 @@ same-length-2 c = search needs
 returns-2 : tie.Need-returns-2
 returns-2 c =
     let u = c .before .before .before .before .before .unescape .ensures in
-    λ h. none-taken _ (closed _ _ _ _ (c .before .before .before .before .before .before .before .before .before .pre) (u .1) (sym (c .before .r .given .1) ∙ u .0) (prefixBits (c .before .before .before .before .before .before .before .before .before .args .there))) _ _
+    λ h. none-taken _ (closed _ _ _ _ (c .before .before .before .before .before .before .before .before .before .pre) (u .1) (sym (c .before .r .given .1) ∙ u .0) (prefixBits (c .before .before .before .before .before .before .before .before .before .args .kind))) _ _
 
 pub body-into-spec : {M : Type 1} → statement M
 body-into-spec =

@@ -15,11 +15,11 @@ enum-known-kind c = search needs
 slice-into-requires : tie.Need-slice-into-requires
 slice-into-requires c κs = begun-small _ _ (sym (c .before .before .before .before .before .before .before .before .before .kind .given .1) ∙ c .before .before .before .before .before .before .before .before .before .before .before .begin .ensures) refl
 
-enum-known-there : tie.Need-enum-known-there
-enum-known-there c = search needs
+enum-known-kind-2 : tie.Need-enum-known-kind-2
+enum-known-kind-2 c = search needs
 
 body-into-requires : tie.Need-body-into-requires
-body-into-requires c κs = begun-small _ _ (sym (c .before .before .before .there .given .1) ∙ c .before .before .before .before .before .begin .ensures) refl
+body-into-requires c κs = begun-small _ _ (sym (c .before .before .before .kind2 .given .1) ∙ c .before .before .before .before .before .begin .ensures) refl
 
 enum-known-id : tie.Need-enum-known-id
 enum-known-id c = search needs
@@ -41,7 +41,7 @@ returns-2 : tie.Need-returns-2
 unfolding unitRead
 returns-2 c =
     let a = c .before .before .before .before .before .before .before .before .before .before .before .args in
-    rw (← c .before .before .before .before .before .before .before .before .begin .ensures, c .before .before .before .before .before .before .there .given .1) (c .before .before .body-into .ensures (record { numbers = a .numbers .now; signed = a .signed .now; l0 = a .l0 .now; l1 = a .l1 .now; marking = a .marking .now; w0 = a .w0 .now; w1 = a .w1 .now }))
+    rw (← c .before .before .before .before .before .before .before .before .begin .ensures, c .before .before .before .before .before .before .kind2 .given .1) (c .before .before .body-into .ensures (record { numbers = a .numbers .now; signed = a .signed .now; l0 = a .l0 .now; l1 = a .l1 .now; marking = a .marking .now; w0 = a .w0 .now; w1 = a .w1 .now }))
 
 returns-3 : tie.Need-returns-3
 unfolding unitRead
@@ -58,7 +58,7 @@ take-spec =
     begin-requires
     enum-known-kind
     slice-into-requires
-    enum-known-there
+    enum-known-kind-2
     body-into-requires
     enum-known-id
     enum-known-r
