@@ -16,7 +16,10 @@ extern "C" {
 #endif
 
 /* The number of this layout: what tuz_layout() answers in an archive made from the same sources. */
-#define TUZ_LAYOUT 2
+#define TUZ_LAYOUT 4
+
+/* The bytes of a buffer that holds every slice header: tuz_write_header never answers 26 to it. */
+#define TUZ_HEADER_BYTES 6144
 
 typedef struct {
   uint32_t sequences[224];
@@ -133,6 +136,9 @@ typedef struct {
   uint32_t number;
   /* the refusal's value */
   int64_t value;
+  /* where the refused field begins in the unescaped body, of a refusal that arises there */
+  bool has_bit;
+  size_t bit;
   /* the slice header's length in bits */
   size_t bits;
   /* its list stands in words that the caller lends, as a slice's header does */
@@ -182,8 +188,8 @@ _Static_assert(sizeof(tuz_MvcExtensionOut) == 8, "tuz_MvcExtensionOut");
 _Static_assert(sizeof(tuz_ExtensionOut) == 18, "tuz_ExtensionOut");
 _Static_assert(sizeof(tuz_MarkedFlag) == 2, "tuz_MarkedFlag");
 _Static_assert(sizeof(tuz_PrefixShort) == 12, "tuz_PrefixShort");
-_Static_assert(sizeof(tuz_ReadOut) == 40, "tuz_ReadOut");
-_Static_assert(sizeof(tuz_WalkOut) == 80, "tuz_WalkOut");
+_Static_assert(sizeof(tuz_ReadOut) == 56, "tuz_ReadOut");
+_Static_assert(sizeof(tuz_WalkOut) == 96, "tuz_WalkOut");
 _Static_assert(sizeof(tuz_ExtensionGiven) == 4, "tuz_ExtensionGiven");
 _Static_assert(sizeof(tuz_WroteOut) == 24, "tuz_WroteOut");
 #endif
@@ -260,10 +266,13 @@ enum tuz_signed {
   TUZ_SIGNED = 7
 };
 
+/* How many bits the header that words hold has at most, by a table's array of picture sets and the header's numbers alone. A buffer with room for as many bits is never too short for `tuz_write_header`. */
+size_t tuz_header_bound(const uint32_t pictures[2048], const uint32_t numbers[57]);
+
 uint32_t tuz_layout(void);
 
-/* A unit's line: its place and length in the recording, its bytes, which only a prefix unit's line looks at, `answer`, `number` and `value` of its ReadOut, and the words of a slice's fields. */
-size_t tuz_unit_line(uint8_t line[128], const uint32_t pictures[2048], size_t place, size_t length, const uint8_t *unit, size_t unit_len, uint32_t answer, uint8_t number, int64_t value, const uint32_t numbers[57], const int32_t signed_numbers[7]);
+/* A unit's line: its place and length in the recording, its bytes, which only a prefix unit's line looks at, `answer`, `number`, `value`, `has_bit` and `bit` of its ReadOut, and the words of a slice's fields. */
+size_t tuz_unit_line(uint8_t line[128], const uint32_t pictures[2048], size_t place, size_t length, const uint8_t *unit, size_t unit_len, uint32_t answer, uint8_t number, int64_t value, bool has_bit, size_t bit, const uint32_t numbers[57], const int32_t signed_numbers[7]);
 
 /* The last line: how many units there were, and how many of them were refused. */
 size_t tuz_end_line(uint8_t line[128], size_t units, size_t refused);
