@@ -54,7 +54,7 @@ module _ (t : Table) (first : ℕ) (x : ExtensionGiven) (h : SliceHeader) (out :
   -- and what it writes has no more bits than the formula says
   pub bound-written : (n : ℕ) → writeHeader t first x h out .answer ≡ HeaderWrote.Bits n → n ≤ boundOf (pictureFor t (h .«pic_parameter_set_id»)) h
   bound-written n e =
-      let w = wrote t first x h out {n} {writeHeader t first x h out .left} (λ i. record { answer = e i; left = writeHeader t first x h out .left }) in
+      let w = wrote t first x h out {n = n} {left = writeHeader t first x h out .left} (λ i. record { answer = e i; left = writeHeader t first x h out .left }) in
       omega (arith, w .size, header-bound t (w .kind) h (w .is-good))
 
 -- ---- the formula
