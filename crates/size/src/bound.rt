@@ -1,6 +1,6 @@
 // How many bits a header has at most, by the lengths of its lists and its counts of active references.
 use lists::list_words::at_most_66;
-use record::fields::active_counts_of;
+use record::parts_of::active_counts_of;
 use syntax::marks::MarkedNumber;
 use table::words::FoundPicture;
 use table::words::picture_in;
