@@ -1,5 +1,5 @@
 // How large a header gets.
-use size::bound::header_bound;
+use size::most::header_bound;
 ghost use mathlib.Core.Path.{_≡_};
 ghost use Rattle.size.specs.InWords.{boundIn};
 

@@ -19,7 +19,7 @@ struct Defaults {
 }
 
 // A set that the table does not have counts as zeros.
-fn defaults(pictures: &[u32; 2048], id: u32) -> Defaults
+fn default_counts(pictures: &[u32; 2048], id: u32) -> Defaults
     ensures { λ r. ⌜ (r .l0 ≡ pictureIn (tables.pictureIn (now (pictures .entry)) id) .«num_ref_idx_l0_default_active_minus1») × (r .l1 ≡ pictureIn (tables.pictureIn (now (pictures .entry)) id) .«num_ref_idx_l1_default_active_minus1») ⌝ }
 {
     match picture_in(pictures, id) {
@@ -53,7 +53,7 @@ fn most_bits(m0: u32, m1: u32, d: u32, n0: u32, n1: u32) -> usize
 pub fn header_bound(pictures: &[u32; 2048], numbers: &[u32; 57]) -> usize
     ensures { λ r. ⌜ r ≡ boundIn (now (pictures .entry)) (now (numbers .entry)) ⌝ }
 {
-    let p = defaults(pictures, numbers[2]);
+    let p = default_counts(pictures, numbers[2]);
     let a = active_counts_of(numbers);
     most_bits(
         at_most_66(numbers[29]),
