@@ -161,11 +161,8 @@ module _ (t : Table) (h : SliceHeader) (out : List ℕ) where
   Long (HeaderWrote.Bits n) = Unit {0}
   Long (HeaderWrote.Refused r) = r .number ≡ bufferTooShort → TooLong t h out
 
-  -- whether or not there is a record
-  bits-long : (ok : Bool) (k : UnitKind) → Long (bitsOut ok t k h out .answer)
-  unfolding bitsOut written
-  bits-long false k = λ e. absurd (omega (arith, e))
-  bits-long true k =
+  some-long : (k : UnitKind) → Long (bitsOut true t k h out .answer)
+  some-long k =
       let l = header t k .bits h in
       cases (header t k .good h)
       (λ g.
@@ -176,6 +173,15 @@ module _ (t : Table) (h : SliceHeader) (out : List ℕ) where
       let s = leb-false (length l) (length (bitsOf out)) m in
       rw (out-short t k h out good s) (λ e. record { kind = k; is-good = good; no-room = s })))
       (λ g. rw (out-none t k h out g) (λ e. absurd (omega (arith, e))))
+
+  none-long : (k : UnitKind) → Long (bitsOut false t k h out .answer)
+  unfolding bitsOut written
+  none-long k = λ e. absurd (omega (arith, e))
+
+  -- whether or not there is a record
+  bits-long : (ok : Bool) (k : UnitKind) → Long (bitsOut ok t k h out .answer)
+  bits-long true k = some-long k
+  bits-long false k = none-long k
 
   sets-long : (ok : Bool) (k : UnitKind) (f : SetsFor) → SetsFine f → Long (afterSets ok t k h out f .answer)
   sets-long ok k (SetsFor.There p s) g = bits-long ok k
