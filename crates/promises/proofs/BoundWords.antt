@@ -29,4 +29,4 @@ module _ (t : Table) (first : ℕ) (x : ExtensionGiven) (w : HeaderWords) (out :
   -- nor is one with room for the bits that the bound tells
   pub words-room : bytesFor (boundIn (t .pictures) (w .numbers)) ≤ length out → r .number ≡ bufferTooShort → ⊥
   unfolding writeWords pictureFor
-  words-room room i = fits-bound (rw bound-numbers (t .pictures) w at room) (too-long (plain w) t first x (headerFrom w) out e i)
+  words-room room i = fits-bound (rw (bound-numbers (t .pictures) w) at room) (too-long (plain w) t first x (headerFrom w) out e i)
