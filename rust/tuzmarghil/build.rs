@@ -176,7 +176,9 @@ fn layout(file: &Path) -> String {
 /// How many bytes are enough for every header, by the theorem that says so.
 fn enough(file: &Path) -> String {
     let source = fs::read_to_string(file).unwrap_or_else(|e| panic!("{}: {e}", file.display()));
-    let bytes = source.lines().find_map(|line| line.strip_prefix("enough = "));
+    let bytes = source
+        .lines()
+        .find_map(|line| line.strip_prefix("enough = "));
     let bytes = bytes.unwrap_or_else(|| panic!("{} does not say enough", file.display()));
     format!("/// The bytes of a buffer that holds every header.\npub const HEADER_BYTES: usize = {bytes};\n")
 }

@@ -594,19 +594,21 @@ fn longest() -> (Table, raw::Words) {
 
     const UE: u32 = u32::MAX - 1;
     const SE: i32 = i32::MAX;
-    let mut words = raw::Words::default();
-    words.numbers = [
-        UE, 6, 255, 0, // the lead
-        0, 0, 65535, 1, 0, 0, 0, 0, 0, // frame
-        0, 0, 0, 1, 1, UE, // order count
-        1, 1, 1, 1, 1, 31, 1, 31, // active counts
-        1, 1, 66, 1, 1, 66, // modifications
-        1, UE, 1, UE, 32, 32, // weights
-        0, 0, 0, 0, 1, 1, 66, // marking
-        1, UE, 0, 0, 0, // quantiser
-        1, 6, 1, 1, 1, 33_554_431, // filter
-    ];
-    words.signed = [0, SE, SE, 87, 0, -6, -6];
+    let mut words = raw::Words {
+        numbers: [
+            UE, 6, 255, 0, // the lead
+            0, 0, 65535, 1, 0, 0, 0, 0, 0, // frame
+            0, 0, 0, 1, 1, UE, // order count
+            1, 1, 1, 1, 1, 31, 1, 31, // active counts
+            1, 1, 66, 1, 1, 66, // modifications
+            1, UE, 1, UE, 32, 32, // weights
+            0, 0, 0, 0, 1, 1, 66, // marking
+            1, UE, 0, 0, 0, // quantiser
+            1, 6, 1, 1, 1, 33_554_431, // filter
+        ],
+        signed: [0, SE, SE, 87, 0, -6, -6],
+        ..raw::Words::default()
+    };
     put(&mut words.l0, &[[5, UE, 0]; 66]);
     put(&mut words.l1, &[[5, UE, 0]; 66]);
     put(&mut words.marking, &[[3, UE, UE]; 66]);
