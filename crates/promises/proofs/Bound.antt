@@ -7,7 +7,6 @@ use native.Mathlib.Omega.{arith}
 use lib.Dec.{T}
 use lib.ListN.{length}
 use Rattle.bits.specs.Refusals.{bufferTooShort}
-use Rattle.bits.specs.Bits.{bitsOf}
 use Rattle.bits.specs.Put.{bytesFor}
 use Rattle.bits.specs.declared.refusals.Refusal.{Refusal}
 use Rattle.table.specs.declared.table.Table.{Table}

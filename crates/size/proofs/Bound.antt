@@ -18,7 +18,7 @@ use Rattle.syntax.proofs.Operations.{few-operations}
 use Rattle.syntax.proofs.Sets.{defaults-few}
 use Rattle.syntax.proofs.Whole.{active-few}
 use Rattle.header.proofs.Tidy.{good-in-order}
-use Rattle.size.specs.Size.{weightsMost, mostBits, boundOf, EachBounded}
+use Rattle.size.specs.Size.{mostBits, boundOf, EachBounded}
 use Rattle.size.proofs.Sized.{sized}
 use Rattle.size.proofs.Parts.{lead-to, frame-to, order-to, counts-to, modifications-to, weights-to, marking-to, quantiser-to, filter-to}
 
