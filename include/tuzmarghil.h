@@ -16,7 +16,10 @@ extern "C" {
 #endif
 
 /* The number of this layout: what tuz_layout() answers in an archive made from the same sources. */
-#define TUZ_LAYOUT 4
+#define TUZ_LAYOUT 5
+
+/* The bytes of a buffer that holds every slice header: tuz_write_header never answers 26 to it. */
+#define TUZ_HEADER_BYTES 6144
 
 typedef struct {
   uint32_t sequences[224];
@@ -263,6 +266,9 @@ enum tuz_signed {
   TUZ_SLICE_BETA_OFFSET_DIV2 = 6,
   TUZ_SIGNED = 7
 };
+
+/* How many bits the header that words hold has at most, by a table's array of picture sets and the header's numbers alone. A buffer with room for as many bits is never too short for `tuz_write_header`. */
+size_t tuz_header_bound(const uint32_t pictures[2048], const uint32_t numbers[57]);
 
 uint32_t tuz_layout(void);
 

@@ -14,7 +14,7 @@ import tempfile
 
 from promises import ROOT, functions, plain
 
-THEOREMS = {"Demands": "demand-", "Behind": "behind-"}  # files of crates/promises/proofs, and how the theorems for signers begin
+THEOREMS = {"Demands": "demand-", "Behind": "behind-", "Bound": "bound-"}  # files of crates/promises/proofs, and how the theorems for signers begin
 MODULE = re.compile(r"Rattle·(\w+)(?:·\w+)?\.(specs|proofs)\.([\w.]+)$")
 USE = re.compile(r"^(?:ghost )?use (\S+?)(?:\.\{([^}]*)\}|(?: as (\S+?))?);?$", re.M | re.S)
 SIGNATURE = re.compile(r"^( *)((?:(?:abbrev|unfoldable|pub) )*)(record |data )?(«?[^\s(){}:«»]+»?)(?= .*:| *:|$)")
@@ -152,12 +152,14 @@ def differences(page, told, found):
 TRIED = {
     "crates/promises/proofs/Demands.antt": "use Rattle.a.specs.Top.{top}\nuse Rattle.a.proofs.Law as law\n\n-- named, not reached\npub demand-1-x : (n : ℕ) → top n ≡ n\ndemand-1-x n = law.other n\n",
     "crates/promises/proofs/Behind.antt": "use Rattle.c.specs.Late.{late}\n\nlaw : (n : ℕ) → n ≡ n\nlaw n = refl\n\npub behind-y : (n : ℕ) → late n ≡ n\nbehind-y n = law n\n",
+    "crates/promises/proofs/Bound.antt": "use Rattle.c.specs.Most.{most}\n\npub bound-z : (n : ℕ) → most n ≡ n\nbound-z n = refl\n",
     "crates/promises/specs/Lib.antt": "",
     "crates/a/specs/Top.antt": "use Rattle.a.specs.Deep.{Pair, pair}\nuse Rattle.b.specs.All as all\nuse Rattle.a.specs.Unused.{unused}\n\nabbrev pub top : ℕ → ℕ\ntop n = all.all (pair n)\n\nabbrev pub second : ℕ → ℕ\nsecond n = unused n\n",
     "crates/a/specs/Deep.antt": "pub data Pair : Type 0 where\n  -- two\n  pair : ℕ → Pair\n",
     "crates/a/specs/Unused.antt": "abbrev pub unused : ℕ → ℕ\nunused n = n\n",
     "crates/b/specs/All.antt": "module _ (n : ℕ) where\n  abbrev pub all : ℕ\n  all = n\n",
     "crates/c/specs/Late.antt": "abbrev pub late : ℕ → ℕ\nlate n = n\n",
+    "crates/c/specs/Most.antt": "abbrev pub most : ℕ → ℕ\nmost n = n\n",
     "crates/b/src/lib.rt": "ghost use Rattle.a.specs.Unused.{unused};\npub fn f(x: u32) -> u32\n ensures { λ r. ⌜ r ≡ unused x ⌝ }\n{ x }\n",
 }
 
@@ -173,7 +175,7 @@ def tried():
         theorems, deep = tree.theorems(), {".".join(m) for m in tree.reached()}
         tree.contracts()
         all_of = {".".join(m) for m in tree.reached()}
-    if theorems != ["demand-1-x", "behind-y"] or deep != {"a.specs.Top", "a.specs.Deep", "b.specs.All", "c.specs.Late"} or all_of - deep != {"a.specs.Unused"}:
+    if theorems != ["demand-1-x", "behind-y", "bound-z"] or deep != {"a.specs.Top", "a.specs.Deep", "b.specs.All", "c.specs.Late", "c.specs.Most"} or all_of - deep != {"a.specs.Unused"}:
         sys.exit(f"believed: tried on a small tree, it finds {theorems}, {sorted(deep)} and {sorted(all_of - deep)}")
 
 
@@ -190,7 +192,7 @@ def main():
                 print(what, crate, " ".join(m[2] if m[1] == "specs" else "/".join(m[1:]) for m in sorted(modules) if m[0] == crate))
         return 0
     page = (ROOT / "docs/PROMISES.md").read_text()
-    named = set(re.findall(r"`((?:demand|behind)-[\w-]+)`", page))
+    named = set(re.findall(r"`((?:demand|behind|bound)-[\w-]+)`", page))
     wrong = [f"docs/PROMISES.md does not name the theorem {name}" for name in theorems if name not in named]
     wrong += [f"docs/PROMISES.md names {name}, which is no theorem" for name in sorted(named - set(theorems))]
     wrong += differences("docs/PROMISES.md", section("docs/PROMISES.md", "Definitions to believe"), demands)

@@ -34,6 +34,9 @@ extern "C" {
 
 /* The number of this layout: what tuz_layout() answers in an archive made from the same sources. */
 #define TUZ_LAYOUT %s
+
+/* The bytes of a buffer that holds every slice header: tuz_write_header never answers 26 to it. */
+#define TUZ_HEADER_BYTES %s
 """
 BACK = """
 #ifdef __cplusplus
@@ -182,8 +185,9 @@ def places(records):
 def header():
     records = Records()
     layout = re.search(r"const LAYOUT: u32 = (\d+);", (ROOT / "crates/exports/src/layout.rt").read_text())[1]
+    enough = re.search(r"^enough = (\d+)$", (ROOT / "crates/promises/specs/Bound.antt").read_text(), re.M)[1]
     found, text = functions(records)
-    return FRONT % layout + "".join(map(records.text, found)) + records.sizes(found) + places(records) + text + BACK
+    return FRONT % (layout, enough) + "".join(map(records.text, found)) + records.sizes(found) + places(records) + text + BACK
 
 
 def main():

@@ -21,9 +21,11 @@ const RECORDS: [&str; 13] = [
     "exports/src/starts.rt",
 ];
 
-/// The file that lays a header's fields down as words, and the one that has the number of the boundary's layout.
+/// The file that lays a header's fields down as words, the one that has the number of the boundary's layout, and the one that says how many bytes are enough for every
+/// header.
 const FIELDS: &str = "crates/header/src/words.rt";
 const LAYOUT: &str = "crates/exports/src/layout.rt";
+const ENOUGH: &str = "crates/promises/specs/Bound.antt";
 
 fn main() {
     let here = PathBuf::from(env::var_os("CARGO_MANIFEST_DIR").unwrap());
@@ -39,7 +41,8 @@ fn main() {
         .collect();
     let fields = fields(&root.join(FIELDS));
     let layout = layout(&root.join(LAYOUT));
-    fs::write(out.join("records.rs"), text + &fields + &layout).unwrap();
+    let enough = enough(&root.join(ENOUGH));
+    fs::write(out.join("records.rs"), text + &fields + &layout + &enough).unwrap();
 
     let name = format!("lib{EXPORTS}.a");
     let archive = archive(&root, &name);
@@ -168,4 +171,14 @@ fn layout(file: &Path) -> String {
     let line = source.lines().find(|line| line.starts_with("const LAYOUT"));
     let line = line.unwrap_or_else(|| panic!("{} has no LAYOUT", file.display()));
     format!("/// The number of the boundary's layout.\npub {line}\n")
+}
+
+/// How many bytes are enough for every header, by the theorem that says so.
+fn enough(file: &Path) -> String {
+    let source = fs::read_to_string(file).unwrap_or_else(|e| panic!("{}: {e}", file.display()));
+    let bytes = source
+        .lines()
+        .find_map(|line| line.strip_prefix("enough = "));
+    let bytes = bytes.unwrap_or_else(|| panic!("{} does not say enough", file.display()));
+    format!("/// The bytes of a buffer that holds every header.\npub const HEADER_BYTES: usize = {bytes};\n")
 }

@@ -8,3 +8,4 @@ pub mod walks; // the walk over a recording
 pub mod listings; // the lines of a listing
 pub mod quants; // QP and QS
 pub mod writes; // writing a header
+pub mod bounds; // how large a header gets

@@ -5,3 +5,5 @@ pub mod Demands
 pub mod Raw
 pub mod Behind
 pub mod Torn
+pub mod Bound
+pub mod BoundWords

@@ -5,3 +5,4 @@ pub mod Bound
 pub mod Fullest
 pub mod Has
 pub mod Reaching
+pub mod InWords

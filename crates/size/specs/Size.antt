@@ -1,8 +1,8 @@
 -- How many bits a slice header has at most (M-110): what each part has at most, in the header's order, then their sum, a formula over the lengths of the lists
--- and the counts of active references. ue(v) and se(v) have at most 63 bits, and fewer where the rules bounds the number.
+-- and the counts of active references. ue(v) and se(v) have at most 63 bits, and fewer where the rules bound the number.
 use Prim.Native.Nat.{ℕ, _+_, _*_, _≤_}
 use mathlib.Core.Path.{_≡_}
-use mathlib.Core.Bool.{false}
+use mathlib.Core.Bool.{Bool, false}
 use lib.Dec.{T}
 use lib.ListN.{length}
 use Rattle.fmt.specs.Fmt.{Fmt}
@@ -61,6 +61,25 @@ boundOf p h =
     mostBits (h .modifications .l0 .operations .count) (h .modifications .l1 .operations .count) (h .«dec_ref_pic_marking» .operations .count)
     (activeOf (h .«active_counts» .«num_ref_idx_l0_active_minus1») (p .«num_ref_idx_l0_default_active_minus1»))
     (activeOf (h .«active_counts» .«num_ref_idx_l1_active_minus1») (p .«num_ref_idx_l1_default_active_minus1»))
+
+-- ---- no part has more than its most
+
+-- under every table, for every unit and picture set, a value that is written has at most so many bits
+abbrev pub Bounded : {A : Type 0} → (Table → Context → Fmt A) → (A → ℕ) → Type 0
+Bounded {A} part most =
+    (t : Table) (n : UnitKind) (id : ℕ) (v : A) → T (part t (contextFor t n id) .good v) → length (part t (contextFor t n id) .bits v) ≤ most v
+
+-- in a slice of any type k, with n0 and n1 active references
+pub record EachBounded : Type 0 where
+  pub lead-most : Bounded (λ t x. lead t) (λ v. leadMost)
+  pub frame-most : Bounded (λ t x. frame x) (λ v. frameMost)
+  pub order-most : (field : Bool) → Bounded (λ t x. orderCount x field) (λ v. orderMost)
+  pub counts-most : (k : ℕ) → Bounded (λ t x. activeCounts k) (λ v. countsMost)
+  pub modifications-most : (k : ℕ) → Bounded (λ t x. modifications x k) (λ m. modificationMost (m .l0 .operations .count) + modificationMost (m .l1 .operations .count))
+  pub weights-most : (k n0 n1 : ℕ) → Bounded (λ t x. predWeightTable x k n0 n1) (λ w. weightsMost (n0 + n1))
+  pub marking-most : Bounded (λ t x. decRefPicMarking x) (λ m. markingMost (m .operations .count))
+  pub quantiser-most : (k : ℕ) → Bounded (λ t x. quantiser x k) (λ v. quantiserMost)
+  pub filter-most : Bounded (λ t x. filter x) (λ v. filterMost)
 
 -- ---- each part's most is reached, so that no smaller formula will do
 

@@ -1,2 +1,2 @@
-// How large a header gets: each part's most bits, and their sum. This crate has no code: its definitions stand in specs/, and that no header has more, and that
-// each part can have as many, in proofs/.
+// How large a header gets: each part's most bits, and their sum. That no header has more, and that each part can have as many, stands in proofs/.
+pub mod most; // the sum, of a header that words hold

@@ -1,4 +1,4 @@
--- How many bits a header has at most: a formula over its lists' lengths and counts of references, part by part, and a number (M-110).
+-- How many bits a header has at most, part by part, as a number; and what the parts with lists have by their lengths. The least formula stands in the crate `size`.
 use Prim.Native.Nat.{ℕ, _+_, _*_, _≤_}
 use mathlib.Core.Path.{_≡_}
 use mathlib.Core.Bool.{Bool, true, false, _&&_}
@@ -11,16 +11,13 @@ use Rattle.fmt.specs.Leaves.{ue}
 use Rattle.fmt.proofs.Sizes.{Short, ue-short, shaped-short, when-short}
 use Rattle.table.specs.declared.table.Table.{Table}
 use Rattle.syntax.specs.declared.context.UnitKind.{UnitKind}
-use Rattle.syntax.specs.declared.context.PrefixKind.{PrefixKind}
 use Rattle.syntax.specs.declared.context.Context.{Context}
-use Rattle.syntax.specs.declared.record.ActiveCounts.{ActiveCounts}
 use Rattle.syntax.specs.declared.record.PredWeightTable.{PredWeightTable}
 use Rattle.syntax.specs.declared.record.SliceHeader.{SliceHeader}
 use Rattle.syntax.specs.Marks.{isZero, given}
 use Rattle.syntax.specs.Lists.{operands}
 use Rattle.syntax.specs.Context.{contextFor, isB, isWeighted}
 use Rattle.syntax.specs.SliceHeader.{activeL0, activeL1, modificationKind, modification, modifications, predWeightTable, markingKind, decRefPicMarking, parts, header}
-use Rattle.syntax.specs.Prefix.{baseMarkingKind, prefix}
 use Rattle.syntax.proofs.Goods.{seq-first, seq-rest, shaped-from}
 use Rattle.syntax.proofs.Sizes.{then, given-short, flagIf-short, numberIf-short, notScalable-short, lead-short, frame-short, orderCount-short, activeCounts-short, quantiser-short, filter-short}
 use Rattle.syntax.proofs.ListSizes.{Within, short-within, within-le, seq-within, shaped-within, operationsIf-within, operationsIf-short, weights-counted, weightList-within, weightList-short}
@@ -41,10 +38,6 @@ modification-operands mvc c = then (one-short _) (λ a. none-short)
 pub marking-operands : (c : ℕ) → Short (operands markingKind c) 126
 unfolding operands
 marking-operands c = then (one-short _) (λ a. one-short _)
-
-pub base-operands : (c : ℕ) → Short (operands baseMarkingKind c) 63
-unfolding operands
-base-operands c = then (one-short _) (λ a. none-short)
 
 pub modification-low : (mvc : Bool) → pick mvc 5 3 ≤ 6
 modification-low true = omega arith
@@ -114,25 +107,6 @@ decRefPicMarking-short x =
     then (flagIf-short _) (λ adaptive.
     operationsIf-short markingKind 126 (omega arith) marking-operands _))))
 
-pub decRefPicMarking-within : (x : Context) → Within (decRefPicMarking x) (λ d. 8 + 131 * d .operations .count)
-unfolding decRefPicMarking
-decRefPicMarking-within x =
-    within-le
-    (shaped-within _ _ _
-    (seq-within (short-within (flagIf-short _)) (λ no-output-of-prior-pics-flag.
-    seq-within (short-within (flagIf-short _)) (λ long-term-reference-flag.
-    seq-within (short-within (flagIf-short _)) (λ adaptive.
-    operationsIf-within markingKind 126 (omega arith) marking-operands _))))) (λ d. omega arith)
-
-pub prefix-short : (k : PrefixKind) → Short (prefix k) 4496
-unfolding prefix
-prefix-short k =
-    shaped-short _ _ _ _ _
-    (then (flagIf-short _) (λ store-ref-base-pic-flag.
-    then (flagIf-short _) (λ adaptive.
-    then (operationsIf-short baseMarkingKind 63 (omega arith) base-operands _) (λ base-marking.
-    flagIf-short _))))
-
 -- ---- the whole
 
 pub parts-short : (x : Context) (k : ℕ) → Short (parts x k) 43010
@@ -155,36 +129,21 @@ header-short t n = shaped-short _ _ _ _ _ (then (lead-short t) (λ l. parts-shor
 pub header-most : (t : Table) (n : UnitKind) (h : SliceHeader) → T (header t n .good h) → length (header t n .bits h) ≤ 8 * 6144
 header-most t n h g = omega (arith, header-short t n .most h g)
 
--- m0, m1 and d operations, and weights for w0 and w1 references
-abbrev pub mostBits : ℕ → ℕ → ℕ → ℕ → ℕ → ℕ
-mostBits m0 m1 d w0 w1 = 1257 + 68 * (m0 + m1) + 131 * d + 380 * (w0 + w1)
-
-pub header-within : (t : Table) (n : UnitKind)
-    → Within (header t n) (λ h. mostBits (h .modifications .l0 .operations .count) (h .modifications .l1 .operations .count) (h .«dec_ref_pic_marking» .operations .count) (h .«pred_weight_table» .l0 .count) (h .«pred_weight_table» .l1 .count))
-unfolding header parts
-header-within t n =
-    within-le
-    (shaped-within _ _ _
-    (seq-within (short-within (lead-short t)) (λ l.
-    seq-within (short-within (frame-short _)) (λ f.
-    seq-within (short-within (orderCount-short _ _)) (λ o.
-    seq-within (short-within (activeCounts-short _)) (λ a.
-    seq-within (modifications-within _ _) (λ m.
-    seq-within (predWeightTable-within _ _ _ _) (λ w.
-    seq-within (decRefPicMarking-within _) (λ d.
-    seq-within (short-within (quantiser-short _ _)) (λ q.
-    short-within (filter-short _))))))))))) (λ h. omega arith)
-
 -- the weights' counts are those of the active references, where there are weights
-pub record Weighed (x : Context) (k : ℕ) (a : ActiveCounts) (w : PredWeightTable) : Type 0 where
-  pub l0 : w .l0 .count ≡ pick (isWeighted x k) (activeL0 x a) 0
-  pub l1 : w .l1 .count ≡ pick (isWeighted x k && isB k) (activeL1 x a) 0
+pub record Weighed (x : Context) (k n0 n1 : ℕ) (w : PredWeightTable) : Type 0 where
+  pub l0 : w .l0 .count ≡ pick (isWeighted x k) n0 0
+  pub l1 : w .l1 .count ≡ pick (isWeighted x k && isB k) n1 0
+
+pub weights-weighed : (x : Context) (k n0 n1 : ℕ) (w : PredWeightTable) → T (predWeightTable x k n0 n1 .good w) → Weighed x k n0 n1 w
+unfolding predWeightTable
+weights-weighed x k n0 n1 w g =
+    let l = seq-rest _ _ _ (seq-rest _ _ _ (shaped-from _ _ _ _ w g)) in
+    record { l0 = weights-counted _ _ _ (seq-first _ _ _ l); l1 = weights-counted _ _ _ (seq-rest _ _ _ l) }
 
 pub header-weighed : (t : Table) (n : UnitKind) (h : SliceHeader) → T (header t n .good h)
-    → Weighed (contextFor t n (h .«pic_parameter_set_id»)) (h .«slice_type») (h .«active_counts») (h .«pred_weight_table»)
-unfolding header parts predWeightTable
+    → Weighed (contextFor t n (h .«pic_parameter_set_id»)) (h .«slice_type») (activeL0 (contextFor t n (h .«pic_parameter_set_id»)) (h .«active_counts»))
+    (activeL1 (contextFor t n (h .«pic_parameter_set_id»)) (h .«active_counts»)) (h .«pred_weight_table»)
+unfolding header parts
 header-weighed t n h g =
     let p = seq-rest _ _ _ (shaped-from _ _ _ _ h g) in
-    let w = seq-first _ _ _ (seq-rest _ _ _ (seq-rest _ _ _ (seq-rest _ _ _ (seq-rest _ _ _ p)))) in
-    let l = seq-rest _ _ _ (seq-rest _ _ _ (shaped-from _ _ _ _ _ w)) in
-    record { l0 = weights-counted _ _ _ (seq-first _ _ _ l); l1 = weights-counted _ _ _ (seq-rest _ _ _ l) }
+    weights-weighed _ _ _ _ _ (seq-first _ _ _ (seq-rest _ _ _ (seq-rest _ _ _ (seq-rest _ _ _ (seq-rest _ _ _ p)))))

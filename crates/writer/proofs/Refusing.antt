@@ -1,14 +1,16 @@
--- What a refusal of the writer goes with: the buffer is as it was, the number is one of those that are checked, and it has no place in a body. And 25, with the checks before it left unsaid.
-use Prim.Native.Nat.{ℕ}
+-- What a refusal of the writer goes with: the buffer is as it was, the number is one of those that are checked, and it has no place in a body. What 26 says. And 25, with the checks before it left unsaid.
+use Prim.Native.Nat.{ℕ, _<_}
 use mathlib.Core.Path.{_≡_, refl, sym, ap, subst, _∙_}
 use mathlib.Core.List.{List, [], _∷_, _++_}
 use mathlib.Core.Bool.{Bool, true, false, _||_}
+use native.Mathlib.Omega.{arith}
 use borrow.Author.Tests.{leb-true, leb-false}
 use lib.Dec.{T, leb, eqb}
 use lib.IntN.{pos}
 use lib.ListN.{length}
-use Rattle.bits.specs.Refusals.{got, pick, refusal, noBits}
+use Rattle.bits.specs.Refusals.{got, pick, refusal, noBits, bufferTooShort}
 use Rattle.bits.specs.Bits.{Bits, bitsOf}
+use Rattle.bits.specs.Put.{written}
 use Rattle.bits.specs.declared.refusals.Refusal.{Refusal}
 use Rattle.bits.proofs.Results.{cases}
 use Rattle.nal.specs.declared.header.NalHeader.{NalHeader}
@@ -141,6 +143,59 @@ module _ (t : Table) (b : ℕ) (x : ExtensionGiven) (h : SliceHeader) (out : Lis
 
   pub refused-with : {r : Refusal} → writeHeader t b x h out .answer ≡ HeaderWrote.Refused r → (writeHeader t b x h out .left ≡ out) × (T (among numbers (r .number)) × (r .«has_bit» ≡ false))
   refused-with e = subst (Fine out (writeHeader t b x h out .left)) e fine
+
+-- ---- 26
+
+-- a good record, whose bits are more than the buffer has
+pub record TooLong (t : Table) (h : SliceHeader) (out : List ℕ) : Type 0 where
+  pub kind : UnitKind
+  pub is-good : T (header t kind .good h)
+  pub no-room : length (bitsOf out) < length (header t kind .bits h)
+
+-- another check's number is not 26
+not-26 : {P : Type 0} (r : Refusal) (ns : List ℕ) → T (among ns (r .number)) → r .number ≡ bufferTooShort → among ns bufferTooShort ≡ false → P
+not-26 r ns g e f = absurd (rw f at (rw e at g))
+
+module _ (t : Table) (h : SliceHeader) (out : List ℕ) where
+  abbrev Long : HeaderWrote → Type 0
+  Long (HeaderWrote.Bits n) = Unit {0}
+  Long (HeaderWrote.Refused r) = r .number ≡ bufferTooShort → TooLong t h out
+
+  some-long : (k : UnitKind) → Long (bitsOut true t k h out .answer)
+  some-long k =
+      let l = header t k .bits h in
+      cases (header t k .good h)
+      (λ g.
+      let good : T (header t k .good h) = rw g tt in
+      cases (leb (length l) (length (bitsOf out)))
+      (λ m. rw (out-bits t k h out good (leb-true (length l) (length (bitsOf out)) m)) tt)
+      (λ m.
+      let s = leb-false (length l) (length (bitsOf out)) m in
+      rw (out-short t k h out good s) (λ e. record { kind = k; is-good = good; no-room = s })))
+      (λ g. rw (out-none t k h out g) (λ e. absurd (omega (arith, e))))
+
+  none-long : (k : UnitKind) → Long (bitsOut false t k h out .answer)
+  unfolding bitsOut written
+  none-long k = λ e. absurd (omega (arith, e))
+
+  -- whether or not there is a record
+  bits-long : (ok : Bool) (k : UnitKind) → Long (bitsOut ok t k h out .answer)
+  bits-long true k = some-long k
+  bits-long false k = none-long k
+
+  sets-long : (ok : Bool) (k : UnitKind) (f : SetsFor) → SetsFine f → Long (afterSets ok t k h out f .answer)
+  sets-long ok k (SetsFor.There p s) g = bits-long ok k
+  sets-long ok k (SetsFor.Refused r) g = λ e. not-26 r (8 ∷ 9 ∷ 10 ∷ []) (g .0) e refl
+
+  kind-long : (ok : Bool) (f : KindGiven) → KindFine f → Long (afterKind ok t h out f .answer)
+  kind-long ok (KindGiven.Of k) g = sets-long ok k (setsFor t (h .«pic_parameter_set_id»)) (sets-fine t (h .«pic_parameter_set_id»))
+  kind-long ok (KindGiven.Refused r) g = λ e. not-26 r (2 ∷ 3 ∷ 4 ∷ 13 ∷ []) (g .0) e refl
+
+-- 26 is given to such a record alone
+pub too-long : (ok : Bool) (t : Table) (b : ℕ) (x : ExtensionGiven) (h : SliceHeader) (out : List ℕ) {r : Refusal} → writeWhere ok t b x h out .answer ≡ HeaderWrote.Refused r
+    → r .number ≡ bufferTooShort → TooLong t h out
+unfolding writeWhere
+too-long ok t b x h out e = subst (Long t h out) e (kind-long t h out ok (kindGiven b x) (kind-fine b x))
 
 -- ---- 25
 

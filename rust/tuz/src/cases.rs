@@ -73,7 +73,7 @@ fn rewritten(table: &Table, reading: &Reading<'_>) -> Result<()> {
         same_header(&slice.header.to_words(table), words),
         "other words come back"
     );
-    let mut buffer = [0xA5; 6144];
+    let mut buffer = [0xA5; tuzmarghil::HEADER_BYTES];
     let first = slice.nal_header;
     let bits = write_header(table, first, slice.extension, &slice.header, &mut buffer)?;
     ensure!(

@@ -88,3 +88,6 @@ pub const LAYOUT: u32 = raw::LAYOUT;
 
 /// The greatest length of a unit or a recording that one call takes, in bytes; beyond it the answer is refusal 27.
 pub const LIMIT: usize = 268_435_456;
+
+/// The length of a buffer that holds every header, in bytes: [`write_header`] never refuses it with 26.
+pub const HEADER_BYTES: usize = raw::HEADER_BYTES;

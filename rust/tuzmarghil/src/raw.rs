@@ -74,6 +74,7 @@ extern "C" {
         w1: *mut WeightWords,
         base: *mut ListWords,
     );
+    fn tuz_header_bound(pictures: *const [u32; 2048], numbers: *const NumberWords) -> usize;
     fn tuz_write_header(
         out: *mut WroteOut,
         sequences: *const [u32; 224],
@@ -283,6 +284,13 @@ pub fn walk(
     let (s, sn) = (scratch.as_mut_ptr(), scratch.len());
     // SAFETY: each pointer and length is that of a live slice, the arrays live through the call and lie apart, and it requires nothing.
     unsafe { lending!(words, tuz_walk(out, q, p, r, rn, from, s, sn)) }
+}
+
+/// How many bits the header in words has at most, by the lengths of its lists and its active counts.
+pub fn header_bound(table: &Table, words: &Words) -> usize {
+    asked();
+    // SAFETY: both arrays live through the call, which only reads them and requires nothing.
+    unsafe { tuz_header_bound(&table.pictures, &words.numbers) }
 }
 
 pub fn write_header(

@@ -5,8 +5,8 @@ use crate::{NalHeader, NalHeaderExtension, Refusal, SliceHeader, Table};
 
 /// Writes a slice header into the front of a buffer, for a unit with this first byte and extension (types 20 and 21 have one), and says how many bits it has.
 ///
-/// Whole bytes are filled, spare low bits with zeros; bytes after them are left as they were, and so is all of it by a refusal. 6,144 bytes are enough for every
-/// header. What is written is the unescaped body's beginning.
+/// Whole bytes are filled, spare low bits with zeros; bytes after them are left as they were, and so is all of it by a refusal. [`HEADER_BYTES`](crate::HEADER_BYTES)
+/// are enough for every header, [`SliceHeader::bound`] bits for this one. What is written is the unescaped body's beginning.
 ///
 /// ```
 /// use tuzmarghil::{read_unit, write_header, Table, Unit};
@@ -45,5 +45,26 @@ pub fn write_header(
     match answer.number {
         0 => Ok(answer.bits),
         number => Err(Refusal::new(number, answer.value)),
+    }
+}
+
+impl SliceHeader {
+    /// How many bits it has at most when it is written, by the lengths of its lists and its active counts. A buffer with room for them is never too short; for a
+    /// header that cannot be written it may be more than [`HEADER_BYTES`](crate::HEADER_BYTES) hold.
+    ///
+    /// ```
+    /// use tuzmarghil::{read_unit, Table, Unit};
+    ///
+    /// let table = Table::sample();
+    /// let slice = match read_unit(&table, &[0x65, 0x88, 0x84, 0xA0], &mut Vec::new())? {
+    ///     Unit::Slice(slice) => slice,
+    ///     other => panic!("{other:?}"),
+    /// };
+    /// assert_eq!(slice.bits, 17);
+    /// assert_eq!(slice.header.bound(&table), 659 + 380 * 2); // no entries in lists, a reference of each by the picture set
+    /// # Ok::<(), tuzmarghil::Refusal>(())
+    /// ```
+    pub fn bound(&self, table: &Table) -> usize {
+        raw::header_bound(table.as_raw(), &self.to_words(table))
     }
 }

@@ -531,7 +531,7 @@ fn refusals_keep_their_order() {
     let weights = one_of_two.pred_weight_table.as_mut().unwrap();
     weights.chroma_weights_l1[0].pop();
 
-    let mut out = [0xA5; 6144];
+    let mut out = [0xA5; HEADER_BYTES];
     let mut number = |table: &Table, first: u8, extension, header: &SliceHeader| {
         let first = NalHeader::new(first).unwrap();
         let answer = write_header(table, first, extension, header, &mut out);
@@ -663,7 +663,7 @@ fn words_that_no_reading_leaves() {
         b3: unit[3],
     };
     let write = |words: &raw::Words| {
-        let mut buffer = [0; 6144];
+        let mut buffer = [0; HEADER_BYTES];
         let wrote = raw::write_header(table.as_raw(), unit[0], given, words, &mut buffer);
         (wrote.number, wrote.bits)
     };
@@ -693,6 +693,114 @@ fn words_that_no_reading_leaves() {
     let mut other = words.clone();
     other.w0[0] = 2;
     assert_eq!(write(&other), (25, 0));
+}
+
+/// The longest B slice, a frame's of type 20: every list is full, every field that it can have is there, every number as long as it gets.
+fn longest() -> (Table, raw::Words) {
+    let mut sequence = Sequence::default();
+    sequence.chroma_format_idc = 3;
+    sequence.bit_depth_luma_minus8 = 6;
+    sequence.log2_max_frame_num = 16;
+    sequence.pic_order_cnt_type = 1;
+    sequence.pic_size_in_map_units = 16_777_216;
+    let mut picture = Picture::default();
+    picture.entropy_coding_mode_flag = true;
+    picture.bottom_field_pic_order_in_frame_present_flag = true;
+    picture.num_ref_idx_l0_default_active_minus1 = 31;
+    picture.num_ref_idx_l1_default_active_minus1 = 31;
+    picture.weighted_bipred_idc = 1;
+    picture.pic_init_qp_minus26 = -62;
+    picture.deblocking_filter_control_present_flag = true;
+    picture.redundant_pic_cnt_present_flag = true;
+    picture.slice_group_change_rate = 1;
+    let mut table = Table::new();
+    table.put_sequence(0, sequence).unwrap();
+    table.put_picture(255, picture).unwrap();
+
+    const UE: u32 = u32::MAX - 1;
+    const SE: i32 = i32::MAX;
+    let mut words = raw::Words {
+        numbers: [
+            UE, 6, 255, 0, // the lead
+            0, 0, 65535, 1, 0, 0, 0, 0, 0, // frame
+            0, 0, 0, 1, 1, UE, // order count
+            1, 1, 1, 1, 1, 31, 1, 31, // active counts
+            1, 1, 66, 1, 1, 66, // modifications
+            1, UE, 1, UE, 32, 32, // weights
+            0, 0, 0, 0, 1, 1, 66, // marking
+            1, UE, 0, 0, 0, // quantiser
+            1, 6, 1, 1, 1, 33_554_431, // filter
+        ],
+        signed: [0, SE, SE, 87, 0, -6, -6],
+        ..raw::Words::default()
+    };
+    put(&mut words.l0, &[[5, UE, 0]; 66]);
+    put(&mut words.l1, &[[5, UE, 0]; 66]);
+    put(&mut words.marking, &[[3, UE, UE]; 66]);
+    put(&mut words.w0, &[[1, SE, SE, 1, SE, SE, SE, SE]; 32]);
+    put(&mut words.w1, &[[1, SE, SE, 1, SE, SE, SE, SE]; 32]);
+    (table, words)
+}
+
+/// No header is longer than a B slice that has everything, by more than the bits that only other slices have; `HEADER_BYTES` hold it.
+#[test]
+fn the_longest_header_fits() {
+    let (table, words) = longest();
+    let given = raw::ExtensionGiven {
+        there: true,
+        b1: 0x40,
+        b2: 0,
+        b3: 1,
+    };
+    let write = |room: usize| {
+        let mut buffer = vec![0xA5; room];
+        let wrote = raw::write_header(table.as_raw(), 0x74, given, &words, &mut buffer);
+        (wrote.number, wrote.value, wrote.bits)
+    };
+    // colour_plane_id, bottom_field_flag, idr_pic_id, two bits of slice_type, sp_for_switch_flag and slice_qs_delta are not in it
+    let bits = 42_601 - 2 - 1 - 63 - 2 - 1 - 13;
+    assert_eq!(raw::header_bound(table.as_raw(), &words), 42_601);
+    assert_eq!(write(HEADER_BYTES), (0, 0, bits));
+    assert_eq!(write(5315), (0, 0, bits));
+    assert_eq!(write(5314), (26, 5315, 0));
+}
+
+/// The bound goes by the lengths of lists and the active counts, the slice's own or the picture set's, and by nothing else. It does not wrap.
+#[test]
+fn bounds_by_lists_and_counts() {
+    let (table, words) = longest();
+    let bound = |change: &dyn Fn(&mut raw::Words)| {
+        let mut other = words.clone();
+        change(&mut other);
+        raw::header_bound(table.as_raw(), &other)
+    };
+    for (count, bits) in [(29, 68), (32, 68), (45, 131), (24, 380), (26, 380)] {
+        assert_eq!(bound(&|w| w.numbers[count] -= 1), 42_601 - bits, "{count}");
+    }
+    for k in (0..57).filter(|k| ![2, 23, 24, 25, 26, 29, 32, 45].contains(k)) {
+        assert_eq!(bound(&|w| w.numbers[k] += 1), 42_601, "{k}");
+    }
+    for count in [29, 32, 45] {
+        assert_eq!(bound(&|w| w.numbers[count] = u32::MAX), 42_601, "{count}");
+    }
+    // without counts of its own: the picture set's, or none where there is no such set
+    let sets = |w: &mut raw::Words| (w.numbers[23], w.numbers[25]) = (0, 0);
+    assert_eq!(bound(&sets), 42_601);
+    let absent = |w: &mut raw::Words| {
+        sets(w);
+        w.numbers[2] = 7;
+    };
+    assert_eq!(bound(&absent), 42_601 - 2 * 31 * 380);
+    let vast = |w: &mut raw::Words| (w.numbers[24], w.numbers[26]) = (u32::MAX, u32::MAX);
+    assert_eq!(bound(&vast), 42_601 + 2 * (u32::MAX as usize - 31) * 380);
+
+    let (table, unit, ..) = b_field();
+    let slice = match read_unit(&table, &unit, &mut Vec::new()) {
+        Ok(Unit::Slice(slice)) => slice,
+        other => panic!("{other:?}"),
+    };
+    let (lists, references) = (68 * (2 + 3) + 131 * 6, 380 * (2 + 1));
+    assert_eq!(slice.header.bound(&table), 659 + lists + references);
 }
 
 /// The first byte and the extension, each field by its bits.
