@@ -14,7 +14,7 @@ use Rattle.table.specs.declared.table.Table.{Table}
 use Rattle.table.specs.declared.words.FoundPicture.{FoundPicture}
 use Rattle.table.specs.declared.words.FoundSequence.{FoundSequence}
 use Rattle.table.specs.Sets.{sequenceFits, pictureFits}
-use Rattle.table.specs.Tables.{Put, cycleWidth, sequencePut, picturePut, pictureIn, sequenceAt, pictureAt, putSequence, putPicture, emptyTable}
+use Rattle.table.specs.Tables.{Put, cycleWidth, pictureIn, sequenceAt, pictureAt, putSequence, putPicture, emptyTable}
 use Rattle.table.specs.Made.{TrueWidths, BlankSequences, BlankPictures, Change, sequenceSet, pictureSet, changed, madeFrom, made}
 use Rattle.table.proofs.Tests.{both, is-it}
 use Rattle.table.proofs.Entries.{Sized, put-sequence-there, put-sequence-other, put-sequence-blank, put-sequence-refused, put-picture-there, put-picture-other, put-picture-length, put-picture-blank, put-picture-refused, empty-picture, empty-sized, empty-blank-sequences, empty-blank-pictures}

@@ -130,7 +130,10 @@ pub fn picture_in(t: &[u32; 2304], id: u32) -> FoundPicture
     let qs = t[i + 6];
     let slice_group_change_rate = t[i + 7];
     let width = t[i + 8];
-    if !both(within(32, 63, marks), both(qp <= 87, both(qs <= 51, width <= 25))) {
+    if !both(
+        within(32, 63, marks),
+        both(qp <= 87, both(qs <= 51, width <= 25)),
+    ) {
         return FoundPicture::Absent;
     }
     let p = Picture {
@@ -222,12 +225,7 @@ pub fn put_sequence_in(
 }
 
 // The same for a picture set, whose width goes by the sequence set that it names.
-pub fn put_picture_in(
-    sequences: &[u32; 224],
-    t: &mut [u32; 2304],
-    id: u32,
-    p: Picture,
-) -> Changed
+pub fn put_picture_in(sequences: &[u32; 224], t: &mut [u32; 2304], id: u32, p: Picture) -> Changed
     ensures { λ r. ⌜ (r ≡ picturePut (now (sequences .entry)) (now (t .entry)) id p .answer) × (now (t .exit) ≡ picturePut (now (sequences .entry)) (now (t .entry)) id p .left) ⌝ }
 {
     if 255 < id {
