@@ -65,7 +65,7 @@ fn no_sequence() -> Sequence
     }
 }
 
-fn picture_out(t: &[u32; 2048], id: u32) -> PictureOut
+fn picture_out(t: &[u32; 2304], id: u32) -> PictureOut
     ensures { λ r. ⌜ r ≡ pictureOut (pictureIn (now (t .entry)) id) ⌝ }
 {
     match picture_in(t, id) {
@@ -120,7 +120,7 @@ fn put_sequence_out(t: &mut [u32; 224], id: u32, s: Sequence) -> ChangedOut
     changed_out(put_sequence_in(t, id, s))
 }
 
-fn put_picture_out(t: &mut [u32; 2048], id: u32, p: Picture) -> ChangedOut
+fn put_picture_out(t: &mut [u32; 2304], id: u32, p: Picture) -> ChangedOut
     ensures { λ r. ⌜ (r ≡ changedOut (picturePut (now (t .entry)) id p .answer)) × (now (t .exit) ≡ picturePut (now (t .entry)) id p .left) ⌝ }
 {
     changed_out(put_picture_in(t, id, p))

@@ -51,7 +51,7 @@ pub fn lead<'a>(
     s: &'a [u8],
     c: Cursor,
     sequences: &'a [u32; 224],
-    pictures: &'a [u32; 2048],
+    pictures: &'a [u32; 2304],
 ) -> LeadStep
     ensures { λ r. ⌜ asLead r ≡ bind (lead (tableOf (now (sequences .entry)) (now (pictures .entry))) .read (bitsOf (now (s .entry))) (c .at)) (λ v e. got (ledOf (tableOf (now (sequences .entry)) (now (pictures .entry))) v) e) ⌝ }
 {

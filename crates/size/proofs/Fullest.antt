@@ -63,7 +63,7 @@ fullKind idr = record { reference = true; idr = idr; mvc = true; svc = false }
 
 -- what the table's sets, under picture set 255, are to the header
 abbrev pub full : Bool → Bool → Context
-full idr planes = record { kind = fullKind idr; picture = fullPicture; sequence = fullSequence planes }
+full idr planes = record { kind = fullKind idr; picture = fullPicture; sequence = fullSequence planes; «cycle_width» = 25 }
 
 -- ---- entries of lists
 

@@ -16,12 +16,12 @@ use Rattle.table.specs.declared.sets.Sequence.{Sequence}
 use Rattle.table.specs.declared.table.Table.{Table}
 use Rattle.table.specs.declared.words.FoundPicture.{FoundPicture}
 use Rattle.table.specs.Sets.{between, all, pictureFits, sequenceFits}
-use Rattle.table.specs.Tables.{widthIn, pictureOf, pictureTests, pictureEntry, pictureIn, renewedBy, renewed, widthsAfter, pictureAt, putSequence}
+use Rattle.table.specs.Tables.{widthIn, pictureOf, pictureTests, pictureEntry, pictureIn, renewedBy, renewed, widthsAfter, pictureAt, putSequence, emptyTable}
 use Rattle.table.specs.Made.{BlankPictures}
 use Rattle.table.proofs.Tests.{both, is-it, each, next, last}
 use Rattle.table.proofs.Ranges.{sequence-ranges}
 use Rattle.table.proofs.Looking.{same-set, picture-past}
-use Rattle.table.proofs.Entries.{same-words, width-most, found-picture, Sized, put-sequence-length}
+use Rattle.table.proofs.Entries.{same-words, width-most, found-picture, Sized, put-sequence-length, empty-picture}
 
 -- ---- one width set
 
@@ -153,7 +153,22 @@ module _ (id size : ℕ) where
         by-words (renewed id size t n) n j (pictureIn (renewed id size t n) n) refl (same-words (renewed id size t n) t j (renewed-words n j a) ∙ a) i l
         ∙ renewed-words n j a i l
 
+  -- where there is no picture set, nothing changes
+  pub renewed-none : (t : List ℕ) → ((j : ℕ) → pictureIn t j ≡ FoundPicture.Absent) → (n : ℕ) → renewed id size t n ≡ t
+  unfolding renewed
+  renewed-none t a zero = refl
+  renewed-none t a (suc n) = rw (renewed-none t a n, a n)
+
 -- ---- and of a table
+
+-- a new table has no width to set
+pub empty-widths : (id : ℕ) (s : Sequence) → widthsAfter (emptyTable .pictures) id s ≡ emptyTable .pictures
+unfolding widthsAfter
+empty-widths id s = by (leb id 31 && sequenceFits s)
+  where
+    by : (b : Bool) → pick b (renewed id (s .«pic_size_in_map_units») (emptyTable .pictures) 256) (emptyTable .pictures) ≡ emptyTable .pictures
+    by true = renewed-none id _ (emptyTable .pictures) empty-picture 256
+    by false = refl
 
 module _ (t : Table) (z : Sized t) (id : ℕ) (s : Sequence) where
   abbrev after : Table

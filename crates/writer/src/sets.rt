@@ -31,7 +31,7 @@ pub(crate) fn why_sets(a: SetsFor) -> Refusal
 }
 
 // The checks 8, 9 and 10, by the table whose arrays are lent.
-pub(crate) fn sets_for<'a>(sequences: &'a [u32; 224], pictures: &'a [u32; 2048], id: u32) -> SetsFor
+pub(crate) fn sets_for<'a>(sequences: &'a [u32; 224], pictures: &'a [u32; 2304], id: u32) -> SetsFor
     ensures { λ r. ⌜ r ≡ setsFor (tableOf (now (sequences .entry)) (now (pictures .entry))) id ⌝ }
 {
     if 255 < id {

@@ -124,7 +124,7 @@ fn write_known(
 // buffer as it was. Words behind a list's count are not looked at.
 pub fn write_words_in<'a>(
     sequences: &'a [u32; 224],
-    pictures: &'a [u32; 2048],
+    pictures: &'a [u32; 2304],
     first: u8,
     extension: ExtensionGiven,
     numbers: &[u32; 57],
