@@ -69,7 +69,7 @@ fn picture_out(t: &[u32; 2304], id: u32) -> PictureOut
     ensures { λ r. ⌜ r ≡ pictureOut (pictureIn (now (t .entry)) id) ⌝ }
 {
     match picture_in(t, id) {
-        FoundPicture::There(picture) => PictureOut {
+        FoundPicture::There(picture, _) => PictureOut {
             there: true,
             picture,
         },

@@ -234,6 +234,7 @@ fn behind(
         kind,
         picture,
         sequence,
+        cycle_width: l.cycle_width,
     };
     let a3 = lists_into(s, c, x, l.slice_type, l0, l1);
     let ListsStep::Got(o, c3) = a3 else {
@@ -314,6 +315,7 @@ fn fill<'a>(
         kind,
         picture,
         sequence,
+        cycle_width: l.cycle_width,
     };
     let a2 = front(s, c1, x, l.slice_type);
     let FrontStep::Got(f, c2) = a2 else {

@@ -9,7 +9,7 @@ fn init_qp(pictures: &[u32; 2304], id: u32) -> i32
     ensures { λ r. ⌜ r ≡ initQp (now (pictures .entry)) id ⌝ }
 {
     match picture_in(pictures, id) {
-        FoundPicture::There(p) => p.pic_init_qp_minus26,
+        FoundPicture::There(p, _) => p.pic_init_qp_minus26,
         FoundPicture::Absent => 0,
     }
 }
@@ -18,7 +18,7 @@ fn init_qs(pictures: &[u32; 2304], id: u32) -> i32
     ensures { λ r. ⌜ r ≡ initQs (now (pictures .entry)) id ⌝ }
 {
     match picture_in(pictures, id) {
-        FoundPicture::There(p) => p.pic_init_qs_minus26,
+        FoundPicture::There(p, _) => p.pic_init_qs_minus26,
         FoundPicture::Absent => 0,
     }
 }

@@ -2,6 +2,7 @@
 use Prim.Native.Nat.{ℕ, zero, suc}
 use mathlib.Core.Path.{_≡_, refl, _∙_}
 use native.Mathlib.Omega.{arith}
+use lib.Dec.{eqb}
 use Rattle.bits.specs.Width.{changeCycleWidth}
 use Rattle.bits.proofs.Widths.{width-least}
 use Rattle.fmt.specs.Fmt.{seq, shaped}
@@ -44,4 +45,4 @@ module _ (t : Table) (v : TrueWidths t) where
 
   pub header-same : (n : UnitKind) → header t n ≡ headerBefore t n
   unfolding header headerBefore
-  header-same n = λ i. shaped (toHeader t) ofHeader _ (seq (lead t) (λ l. parts (context-same n (l .1 .1) i) (l .1 .0)))
+  header-same n = λ i. shaped (toHeader t) ofHeader (λ h. eqb (h .«seq_parameter_set_id») (sequenceIdFor t (h .«pic_parameter_set_id»))) (seq (lead t) (λ l. parts (context-same n (l .1 .1) i) (l .1 .0)))
