@@ -16,7 +16,7 @@ extern "C" {
 #endif
 
 /* The number of this layout: what tuz_layout() answers in an archive made from the same sources. */
-#define TUZ_LAYOUT 2
+#define TUZ_LAYOUT 4
 
 typedef struct {
   uint32_t sequences[224];

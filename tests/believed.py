@@ -14,7 +14,7 @@ import tempfile
 
 from promises import ROOT, functions, plain
 
-THEOREMS = {"Demands": "demand-", "Behind": "behind-"}  # files of crates/promises/proofs, and how the theorems for signers begin
+THEOREMS = {"Demands": "demand-", "Behind": "behind-", "Widths": "widths-"}  # files of crates/promises/proofs, and how the theorems for signers begin
 MODULE = re.compile(r"Rattle·(\w+)(?:·\w+)?\.(specs|proofs)\.([\w.]+)$")
 USE = re.compile(r"^(?:ghost )?use (\S+?)(?:\.\{([^}]*)\}|(?: as (\S+?))?);?$", re.M | re.S)
 SIGNATURE = re.compile(r"^( *)((?:(?:abbrev|unfoldable|pub) )*)(record |data )?(«?[^\s(){}:«»]+»?)(?= .*:| *:|$)")

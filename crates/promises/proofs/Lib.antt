@@ -1,3 +1,4 @@
+pub mod Sample
 pub mod Marked
 pub mod Numbers
 pub mod Cases
@@ -5,3 +6,4 @@ pub mod Demands
 pub mod Raw
 pub mod Behind
 pub mod Torn
+pub mod Widths

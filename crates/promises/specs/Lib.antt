@@ -1,3 +1,4 @@
 pub mod Marked
 pub mod Demands
 pub mod Behind
+pub mod Before
