@@ -152,6 +152,7 @@ def differences(page, told, found):
 TRIED = {
     "crates/promises/proofs/Demands.antt": "use Rattle.a.specs.Top.{top}\nuse Rattle.a.proofs.Law as law\n\n-- named, not reached\npub demand-1-x : (n : ℕ) → top n ≡ n\ndemand-1-x n = law.other n\n",
     "crates/promises/proofs/Behind.antt": "use Rattle.c.specs.Late.{late}\n\nlaw : (n : ℕ) → n ≡ n\nlaw n = refl\n\npub behind-y : (n : ℕ) → late n ≡ n\nbehind-y n = law n\n",
+    "crates/promises/proofs/Widths.antt": "use Rattle.c.specs.Late.{late}\n\npub widths-z : (n : ℕ) → late n ≡ n\nwidths-z n = refl\n",
     "crates/promises/specs/Lib.antt": "",
     "crates/a/specs/Top.antt": "use Rattle.a.specs.Deep.{Pair, pair}\nuse Rattle.b.specs.All as all\nuse Rattle.a.specs.Unused.{unused}\n\nabbrev pub top : ℕ → ℕ\ntop n = all.all (pair n)\n\nabbrev pub second : ℕ → ℕ\nsecond n = unused n\n",
     "crates/a/specs/Deep.antt": "pub data Pair : Type 0 where\n  -- two\n  pair : ℕ → Pair\n",
@@ -173,7 +174,7 @@ def tried():
         theorems, deep = tree.theorems(), {".".join(m) for m in tree.reached()}
         tree.contracts()
         all_of = {".".join(m) for m in tree.reached()}
-    if theorems != ["demand-1-x", "behind-y"] or deep != {"a.specs.Top", "a.specs.Deep", "b.specs.All", "c.specs.Late"} or all_of - deep != {"a.specs.Unused"}:
+    if theorems != ["demand-1-x", "behind-y", "widths-z"] or deep != {"a.specs.Top", "a.specs.Deep", "b.specs.All", "c.specs.Late"} or all_of - deep != {"a.specs.Unused"}:
         sys.exit(f"believed: tried on a small tree, it finds {theorems}, {sorted(deep)} and {sorted(all_of - deep)}")
 
 
