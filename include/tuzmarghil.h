@@ -16,14 +16,14 @@ extern "C" {
 #endif
 
 /* The number of this layout: what tuz_layout() answers in an archive made from the same sources. */
-#define TUZ_LAYOUT 5
+#define TUZ_LAYOUT 6
 
 /* The bytes of a buffer that holds every slice header: tuz_write_header never answers 26 to it. */
 #define TUZ_HEADER_BYTES 6144
 
 typedef struct {
   uint32_t sequences[224];
-  uint32_t pictures[2048];
+  uint32_t pictures[2304];
 } tuz_Table;
 
 /* What a sequence parameter set says (7.3.2.1.1). */
@@ -177,7 +177,7 @@ typedef struct {
 } tuz_WroteOut;
 
 #ifndef __cplusplus
-_Static_assert(sizeof(tuz_Table) == 9088, "tuz_Table");
+_Static_assert(sizeof(tuz_Table) == 10112, "tuz_Table");
 _Static_assert(sizeof(tuz_Sequence) == 32, "tuz_Sequence");
 _Static_assert(sizeof(tuz_SequenceOut) == 36, "tuz_SequenceOut");
 _Static_assert(sizeof(tuz_Picture) == 40, "tuz_Picture");
@@ -273,16 +273,16 @@ size_t tuz_header_bound(const uint32_t pictures[2048], const uint32_t numbers[57
 uint32_t tuz_layout(void);
 
 /* A unit's line: its place and length in the recording, its bytes, which only a prefix unit's line looks at, `answer`, `number`, `value`, `has_bit` and `bit` of its ReadOut, and the words of a slice's fields. */
-size_t tuz_unit_line(uint8_t line[128], const uint32_t pictures[2048], size_t place, size_t length, const uint8_t *unit, size_t unit_len, uint32_t answer, uint8_t number, int64_t value, bool has_bit, size_t bit, const uint32_t numbers[57], const int32_t signed_numbers[7]);
+size_t tuz_unit_line(uint8_t line[128], const uint32_t pictures[2304], size_t place, size_t length, const uint8_t *unit, size_t unit_len, uint32_t answer, uint8_t number, int64_t value, bool has_bit, size_t bit, const uint32_t numbers[57], const int32_t signed_numbers[7]);
 
 /* The last line: how many units there were, and how many of them were refused. */
 size_t tuz_end_line(uint8_t line[128], size_t units, size_t refused);
 
 /* QP, by the table's array of picture sets, the id of one and slice_qp_delta. A set that the table does not have counts as zeros. */
-int64_t tuz_final_qp(const uint32_t pictures[2048], uint32_t id, int32_t delta);
+int64_t tuz_final_qp(const uint32_t pictures[2304], uint32_t id, int32_t delta);
 
 /* QS, by slice_qs_delta. */
-int64_t tuz_final_qs(const uint32_t pictures[2048], uint32_t id, int32_t delta);
+int64_t tuz_final_qs(const uint32_t pictures[2304], uint32_t id, int32_t delta);
 
 /* The sequence set with an id, out of a lent table. */
 void tuz_sequence_at(tuz_SequenceOut *result, const tuz_Table *t, uint32_t id);
@@ -290,7 +290,7 @@ void tuz_sequence_at(tuz_SequenceOut *result, const tuz_Table *t, uint32_t id);
 /* The picture set with an id, out of a lent table. */
 void tuz_picture_at(tuz_PictureOut *result, const tuz_Table *t, uint32_t id);
 
-/* Puts a sequence set at an id of a lent table. */
+/* Puts a sequence set at an id of a lent table, and sets the widths of the picture sets that name it anew. */
 tuz_ChangedOut tuz_put_sequence(tuz_Table *t, uint32_t id, tuz_Sequence s);
 
 /* Puts a picture set at an id of a lent table. */
@@ -306,13 +306,13 @@ uint32_t tuz_unit_type(uint8_t id);
 void tuz_extension(tuz_ExtensionOut *result, uint8_t b1, uint8_t b2, uint8_t b3);
 
 /* A unit read by the sets in a table's two arrays. Scratch needs as many bytes as the unit has. A slice's header goes to `numbers` and `signed` (fields) and to l0, l1, marking, w0 and w1 (lists), a prefix unit's list to `base`; all other words stay as they were, so words that were zeros behind their counts stay so. Beside a refusal all words are zeros. */
-void tuz_read_unit(tuz_ReadOut *result, const uint32_t sequences[224], const uint32_t pictures[2048], const uint8_t *unit, size_t unit_len, uint8_t *scratch, size_t scratch_len, uint32_t numbers[57], int32_t signed_numbers[7], uint32_t l0[198], uint32_t l1[198], uint32_t marking[198], int32_t w0[256], int32_t w1[256], uint32_t base[198]);
+void tuz_read_unit(tuz_ReadOut *result, const uint32_t sequences[224], const uint32_t pictures[2304], const uint8_t *unit, size_t unit_len, uint8_t *scratch, size_t scratch_len, uint32_t numbers[57], int32_t signed_numbers[7], uint32_t l0[198], uint32_t l1[198], uint32_t marking[198], int32_t w0[256], int32_t w1[256], uint32_t base[198]);
 
 /* One step of the walk from a place on, by the sets in a table's two arrays. Scratch needs as many bytes as the longest unit has. Words are written as by `tuz_read_unit`; where there is no unit, none is. */
-void tuz_walk(tuz_WalkOut *result, const uint32_t sequences[224], const uint32_t pictures[2048], const uint8_t *recording, size_t recording_len, size_t from, uint8_t *scratch, size_t scratch_len, uint32_t numbers[57], int32_t signed_numbers[7], uint32_t l0[198], uint32_t l1[198], uint32_t marking[198], int32_t w0[256], int32_t w1[256], uint32_t base[198]);
+void tuz_walk(tuz_WalkOut *result, const uint32_t sequences[224], const uint32_t pictures[2304], const uint8_t *recording, size_t recording_len, size_t from, uint8_t *scratch, size_t scratch_len, uint32_t numbers[57], int32_t signed_numbers[7], uint32_t l0[198], uint32_t l1[198], uint32_t marking[198], int32_t w0[256], int32_t w1[256], uint32_t base[198]);
 
 /* The header that words hold, as `tuz_read_unit` lays them down, written by the sets in a table's two arrays, for the unit that the first byte and the extension tell of. A refusal leaves the buffer as it was. Words behind a list's count are not looked at. */
-void tuz_write_header(tuz_WroteOut *result, const uint32_t sequences[224], const uint32_t pictures[2048], uint8_t first, tuz_ExtensionGiven extension, const uint32_t numbers[57], const int32_t signed_numbers[7], const uint32_t l0[198], const uint32_t l1[198], const uint32_t marking[198], const int32_t w0[256], const int32_t w1[256], uint8_t *out, size_t out_len);
+void tuz_write_header(tuz_WroteOut *result, const uint32_t sequences[224], const uint32_t pictures[2304], uint8_t first, tuz_ExtensionGiven extension, const uint32_t numbers[57], const int32_t signed_numbers[7], const uint32_t l0[198], const uint32_t l1[198], const uint32_t marking[198], const int32_t w0[256], const int32_t w1[256], uint8_t *out, size_t out_len);
 
 #ifdef __cplusplus
 }

@@ -69,5 +69,55 @@ def sets():
     lines.append("a lent first word of 16: absent")
 
 
+def least_width(size, rate):
+    """The least b with 2^b times the rate no less than size and rate; 0 without a rate."""
+    return next(b for b in range(33) if 2**b * rate >= size + rate) if rate else 0
+
+
+def widths():
+    """The picture sets 4, 5 and 6 with their widths: each put's answer, and the three widths after it."""
+    sequences, pictures, stored = {}, {}, {}
+
+    def three():
+        return " ".join("absent" if stored.get(id, 26) > 25 else str(stored[id]) for id in [4, 5, 6])
+
+    def put_sequence(id, size):
+        good = id <= 31 and 1 <= size <= 16777216
+        if good:
+            sequences[id] = size
+            for other, (named, rate) in pictures.items():
+                if named == id and stored[other] <= 25:
+                    stored[other] = least_width(size, rate)
+        lines.append(f"sequence {id} of {size}: {'done' if good else REFUSED}, widths {three()}")
+
+    def put_picture(id, named, rate):
+        good = rate <= 16777216
+        if good:
+            pictures[id] = named, rate
+            stored[id] = least_width(sequences[named], rate) if named in sequences else 0
+        lines.append(f"picture {id} naming {named} with rate {rate}: {'done' if good else REFUSED}, widths {three()}")
+
+    def lend(width):
+        stored[6] = width
+        lines.append(f"a lent width of {width}: {three()}")
+
+    put_picture(4, 0, 11)
+    put_picture(5, 1, 11)
+    put_picture(6, 0, 0)
+    put_sequence(0, 99)
+    put_sequence(1, 8)
+    put_sequence(0, 8)
+    put_sequence(0, 16777217)
+    put_sequence(32, 99)
+    put_picture(6, 1, 1)
+    put_picture(6, 1, 16777217)
+    put_sequence(1, 16777216)
+    lend(0)
+    lend(26)
+    put_sequence(1, 99)
+    lend(25)
+
+
 sets()
+widths()
 hold("try_table", lines)

@@ -1,5 +1,7 @@
 //! Slice headers alone, from many small units whose ends are known: no search for start codes.
 
+use std::hint::black_box;
+
 use crate::bars::Bars;
 use crate::ours;
 use crate::peers::Span;
@@ -45,4 +47,35 @@ pub fn measure(made: &Recording, peers: &Peers, measure: &Measure, bars: &mut Ba
         let text = format!("headers of {}, over {name}", made.name);
         bars.over_build(&text, name, lane.best / lanes[0].best, 1.5);
     }
+}
+
+/// The generated units by a table whose picture set has slice groups: 4 bits of slice_group_change_cycle behind the rest of each header. The table has their width;
+/// the last lane works it out for each header too, as readers do that do not keep it.
+pub fn groups(measure: &Measure) {
+    let made = Recording::generated("headers", LONGEST);
+    let groups = Recording::with_slice_groups();
+    let units: Vec<&[u8]> = made.slices().cycle().take(measure.size / 3_200).collect();
+    let want = ours::heads(&made.table, &units)();
+    assert_eq!(want.slices, units.len() as u64, "headers were refused");
+
+    let mut read = ours::heads(&groups, &units);
+    let worked = || {
+        for _ in &units {
+            black_box(change_cycle_width(black_box(99), black_box(11)));
+        }
+        read()
+    };
+    let mut lanes = [
+        Lane::new("slice groups", want, ours::heads(&groups, &units)),
+        Lane::new("no slice groups", want, ours::heads(&made.table, &units)),
+        Lane::new("slice groups, each width worked out", want, worked),
+    ];
+    race(&mut lanes, measure.rounds);
+    println!("\nheaders with and without slice_group_change_cycle");
+    print(&lanes, want.units, "header", None);
+}
+
+/// The binary digits of size ÷ rate, rounded up.
+fn change_cycle_width(size: u64, rate: u64) -> u32 {
+    u64::BITS - size.div_ceil(rate).leading_zeros()
 }

@@ -100,6 +100,11 @@ impl Recording {
         Recording::new(name, bytes, SAMPLE_TABLE)
     }
 
+    /// The sample sets with slice groups, whose change rate is 11.
+    pub fn with_slice_groups() -> Table {
+        table(&SAMPLE_TABLE.replace(":0\n", ":11\n"))
+    }
+
     /// The slices' headers with bodies of 4,096 bytes of which a quarter are zeros, escaped as they must be.
     pub fn zero_heavy(&self) -> Recording {
         let (mut random, mut bytes) = (Random::new(), self.sets.clone());

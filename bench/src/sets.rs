@@ -1,9 +1,9 @@
-//! Look-ups of picture sets through the exported function, on a table that is lent.
+//! Look-ups of picture sets through the exported function, on a table that is lent, and puts of a sequence set, which set the widths of picture sets anew.
 
 use std::hint::black_box;
 use std::mem::MaybeUninit;
 
-use tuzmarghil::raw::{Picture, PictureOut, Table};
+use tuzmarghil::raw::{put_picture, put_sequence, Picture, PictureOut, Sequence, Table};
 
 use crate::cpu::nanoseconds;
 
@@ -21,7 +21,7 @@ fn picture_at<'a>(table: &Table, id: u32, out: &'a mut MaybeUninit<PictureOut>) 
 }
 
 /// The words of an entry, as crates/table/specs/Tables.antt, `pictureWords`, has them.
-fn words(set: &Picture) -> [u32; 8] {
+fn words(set: &Picture, width: u32) -> [u32; 9] {
     let flags = [
         set.entropy_coding_mode_flag,
         set.bottom_field_pic_order_in_frame_present_flag,
@@ -40,6 +40,7 @@ fn words(set: &Picture) -> [u32; 8] {
         (set.pic_init_qp_minus26 + 62) as u32,
         (set.pic_init_qs_minus26 + 26) as u32,
         set.slice_group_change_rate,
+        width,
     ]
 }
 
@@ -65,8 +66,8 @@ fn picture(id: u32) -> Picture {
 pub fn lookup() -> f64 {
     let mut table = Table::default();
     for id in 0..256 {
-        let at = id as usize * 8;
-        table.pictures[at..at + 8].copy_from_slice(&words(&picture(id)));
+        let at = id as usize * 9;
+        table.pictures[at..at + 9].copy_from_slice(&words(&picture(id), id % 26));
     }
     let mut out = MaybeUninit::uninit();
     for id in 0..260 {
@@ -93,5 +94,33 @@ pub fn lookup() -> f64 {
         black_box(sum);
         best = best.min((nanoseconds() - start) / f64::from(rounds));
     }
+    best
+}
+
+/// The nanoseconds that a put of a sequence set takes where all 256 picture sets name it, best of several rounds. Two sizes by turns, so that every width is another.
+pub fn put() -> f64 {
+    let mut table = Table::default();
+    let sizes = [99, 4_000].map(|size| Sequence {
+        log2_max_frame_num: 4,
+        pic_size_in_map_units: size,
+        ..Sequence::default()
+    });
+    for id in 0..256 {
+        let mut set = picture(id);
+        (set.seq_parameter_set_id, set.slice_group_change_rate) = (0, 1 + id % 8);
+        assert_eq!(put_picture(&mut table, id, set).number, 0);
+    }
+    let rounds = 20_000u32;
+    let mut best = f64::MAX;
+    for _ in 0..7 {
+        let start = nanoseconds();
+        for i in 0..rounds {
+            let done = put_sequence(&mut table, 0, sizes[i as usize % 2]);
+            assert_eq!(black_box(done).number, 0);
+        }
+        best = best.min((nanoseconds() - start) / f64::from(rounds));
+    }
+    // 4,000 ÷ 1 and ÷ 8, rounded up, and what they take in binary
+    assert_eq!((table.pictures[8], table.pictures[7 * 9 + 8]), (12, 9));
     best
 }

@@ -46,7 +46,7 @@ noPicture =
     }
 
 unfoldable pub pictureOut : FoundPicture → PictureOut
-pictureOut (FoundPicture.There p) = record { there = true; picture = p }
+pictureOut (FoundPicture.There p w) = record { there = true; picture = p }
 pictureOut FoundPicture.Absent = record { there = false; picture = noPicture }
 
 -- the refusal's number and value; 0 where the change was done

@@ -34,7 +34,7 @@ fn hear(answer: u32, number: u8, value: i64, has_bit: bool, bit: usize) -> Short
 #[no_mangle]
 pub extern "C" fn tuz_unit_line(
     line: &mut [u8; 128],
-    pictures: &[u32; 2048],
+    pictures: &[u32; 2304],
     place: usize,
     length: usize,
     unit: &[u8],

@@ -10,7 +10,7 @@ use table::words::put_picture_in;
 use table::words::put_sequence_in;
 use table::words::sequence_in;
 ghost use mathlib.Core.Path.{_≡_};
-ghost use Rattle.table.specs.Tables.{sequenceIn, sequenceAt, pictureIn, pictureAt, sequencePut, picturePut, putSequence, putPicture};
+ghost use Rattle.table.specs.Tables.{sequenceIn, sequenceAt, pictureIn, pictureAt, sequencePut, widthsAfter, picturePut, putSequence, putPicture};
 ghost use Rattle.exports.specs.Sets.{noSequence, sequenceOut, noPicture, pictureOut, changedOut};
 
 // A sequence set, or none: then `there` is false and every field zero.
@@ -65,11 +65,11 @@ fn no_sequence() -> Sequence
     }
 }
 
-fn picture_out(t: &[u32; 2048], id: u32) -> PictureOut
+fn picture_out(t: &[u32; 2304], id: u32) -> PictureOut
     ensures { λ r. ⌜ r ≡ pictureOut (pictureIn (now (t .entry)) id) ⌝ }
 {
     match picture_in(t, id) {
-        FoundPicture::There(picture) => PictureOut {
+        FoundPicture::There(picture, _) => PictureOut {
             there: true,
             picture,
         },
@@ -114,16 +114,26 @@ fn changed_out(c: Changed) -> ChangedOut
     }
 }
 
-fn put_sequence_out(t: &mut [u32; 224], id: u32, s: Sequence) -> ChangedOut
-    ensures { λ r. ⌜ (r ≡ changedOut (sequencePut (now (t .entry)) id s .answer)) × (now (t .exit) ≡ sequencePut (now (t .entry)) id s .left) ⌝ }
+fn put_sequence_out(
+    t: &mut [u32; 224],
+    pictures: &mut [u32; 2304],
+    id: u32,
+    s: Sequence,
+) -> ChangedOut
+    ensures { λ r. ⌜ (r ≡ changedOut (sequencePut (now (t .entry)) id s .answer)) × ((now (t .exit) ≡ sequencePut (now (t .entry)) id s .left) × (now (pictures .exit) ≡ widthsAfter (now (pictures .entry)) id s)) ⌝ }
 {
-    changed_out(put_sequence_in(t, id, s))
+    changed_out(put_sequence_in(t, pictures, id, s))
 }
 
-fn put_picture_out(t: &mut [u32; 2048], id: u32, p: Picture) -> ChangedOut
-    ensures { λ r. ⌜ (r ≡ changedOut (picturePut (now (t .entry)) id p .answer)) × (now (t .exit) ≡ picturePut (now (t .entry)) id p .left) ⌝ }
+fn put_picture_out(
+    sequences: &[u32; 224],
+    t: &mut [u32; 2304],
+    id: u32,
+    p: Picture,
+) -> ChangedOut
+    ensures { λ r. ⌜ (r ≡ changedOut (picturePut (now (sequences .entry)) (now (t .entry)) id p .answer)) × (now (t .exit) ≡ picturePut (now (sequences .entry)) (now (t .entry)) id p .left) ⌝ }
 {
-    changed_out(put_picture_in(t, id, p))
+    changed_out(put_picture_in(sequences, t, id, p))
 }
 
 // The sequence set with an id, out of a lent table.
@@ -142,12 +152,12 @@ pub extern "C" fn tuz_picture_at(t: &Table, id: u32) -> PictureOut
     picture_out(&t.pictures, id)
 }
 
-// Puts a sequence set at an id of a lent table.
+// Puts a sequence set at an id of a lent table, and sets the widths of the picture sets that name it anew.
 #[no_mangle]
 pub extern "C" fn tuz_put_sequence(t: &mut Table, id: u32, s: Sequence) -> ChangedOut
     ensures { λ r. ⌜ (r ≡ changedOut (putSequence (now (t .entry)) id s .answer)) × (now (t .exit) ≡ putSequence (now (t .entry)) id s .table) ⌝ }
 {
-    put_sequence_out(&mut t.sequences, id, s)
+    put_sequence_out(&mut t.sequences, &mut t.pictures, id, s)
 }
 
 // Puts a picture set at an id of a lent table.
@@ -155,5 +165,5 @@ pub extern "C" fn tuz_put_sequence(t: &mut Table, id: u32, s: Sequence) -> Chang
 pub extern "C" fn tuz_put_picture(t: &mut Table, id: u32, p: Picture) -> ChangedOut
     ensures { λ r. ⌜ (r ≡ changedOut (putPicture (now (t .entry)) id p .answer)) × (now (t .exit) ≡ putPicture (now (t .entry)) id p .table) ⌝ }
 {
-    put_picture_out(&mut t.pictures, id, p)
+    put_picture_out(&t.sequences, &mut t.pictures, id, p)
 }

@@ -76,7 +76,7 @@ pub(crate) fn tell(a: ShortAnswer) -> ReadOut
 #[no_mangle]
 pub extern "C" fn tuz_read_unit<'a>(
     sequences: &'a [u32; 224],
-    pictures: &'a [u32; 2048],
+    pictures: &'a [u32; 2304],
     unit: &[u8],
     scratch: &mut [u8],
     numbers: &mut [u32; 57],

@@ -88,7 +88,7 @@ fn walk_told(s: Step, a: ShortAnswer) -> WalkOut
 #[no_mangle]
 pub extern "C" fn tuz_walk<'a>(
     sequences: &'a [u32; 224],
-    pictures: &'a [u32; 2048],
+    pictures: &'a [u32; 2304],
     recording: &[u8],
     from: usize,
     scratch: &mut [u8],

@@ -38,7 +38,7 @@ fn wrote_out(a: HeaderWrote) -> WroteOut
 #[no_mangle]
 pub extern "C" fn tuz_write_header<'a>(
     sequences: &'a [u32; 224],
-    pictures: &'a [u32; 2048],
+    pictures: &'a [u32; 2304],
     first: u8,
     extension: ExtensionGiven,
     numbers: &[u32; 57],

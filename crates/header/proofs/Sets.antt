@@ -16,7 +16,7 @@ use Rattle.table.specs.declared.table.Table.{Table}
 use Rattle.table.specs.declared.words.FoundPicture.{FoundPicture}
 use Rattle.table.specs.declared.words.FoundSequence.{FoundSequence}
 use Rattle.table.specs.Tables.{pictureAt, sequenceAt}
-use Rattle.syntax.specs.Context.{isThere, isThereToo, pictureFor, sequenceIdFor, sequenceFor}
+use Rattle.syntax.specs.Context.{isThere, isThereToo, pictureFor, widthFor, sequenceIdFor, sequenceFor}
 use Rattle.syntax.specs.SliceHeader.{pictureSetId}
 
 -- the id alone
@@ -37,10 +37,14 @@ module _ (t : Table) (s : Bits) (at : ℕ) where
         let inner = test-refuses (λ id. isThere (pictureAt t id)) 9 pos setId s at id e h (ap isThere k) in
         sym (test-none (λ id. isThereToo (sequenceAt t (sequenceIdFor t id))) 10 (λ id. pos (sequenceIdFor t id)) _ s at refl inner) ∙ inner
 
-    module _ {p : Picture} (k : pictureAt t id ≡ FoundPicture.There p) where
+    module _ {p : Picture} {w : ℕ} (k : pictureAt t id ≡ FoundPicture.There p w) where
       pub picture-is : pictureFor t id ≡ p
       unfolding pictureFor
       picture-is = rw k
+
+      pub width-is : widthFor t id ≡ w
+      unfolding widthFor
+      width-is = rw k
 
       sequence-id : sequenceIdFor t id ≡ p .«seq_parameter_set_id»
       unfolding sequenceIdFor

@@ -5,7 +5,7 @@ use Rattle.bits.specs.Refusals.{Res, got, no}
 use Rattle.bits.specs.Answers.{none}
 use Rattle.bits.specs.declared.refusals.Refusal.{Refusal}
 use Rattle.table.specs.declared.table.Table.{Table}
-use Rattle.syntax.specs.Context.{pictureFor, sequenceFor}
+use Rattle.syntax.specs.Context.{pictureFor, widthFor, sequenceFor}
 use Rattle.header.specs.declared.lead.Led.{Led}
 use Rattle.header.specs.declared.lead.LeadStep.{LeadStep}
 
@@ -22,6 +22,7 @@ ledOf t v =
       «pic_parameter_set_id» = v .1 .1;
       picture = pictureFor t (v .1 .1);
       sequence = sequenceFor t (v .1 .1);
+      «cycle_width» = widthFor t (v .1 .1);
     }
 
 abbrev pub asLead : LeadStep → Res Led

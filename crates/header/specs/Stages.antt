@@ -52,7 +52,7 @@ markingFlagsAt x s at =
 
 -- the header's context, and its record of its parts
 abbrev pub contextOf : UnitKind → Led → Context
-contextOf n l = record { kind = n; picture = l .picture; sequence = l .sequence }
+contextOf n l = record { kind = n; picture = l .picture; sequence = l .sequence; «cycle_width» = l .«cycle_width» }
 
 abbrev pub headerOf : Led → FrontParts → Modifications → PredWeightTable → DecRefPicMarking → BackParts → SliceHeader
 headerOf l f m w d b =

@@ -28,6 +28,8 @@ pub struct Led {
     pub pic_parameter_set_id: u32,
     pub picture: Picture,
     pub sequence: Sequence,
+    // the change cycle's, as it stands with the picture set
+    pub cycle_width: u32,
 }
 
 // The refusal stands first: the compiler takes the first variant for the rare one. Behind several answers the other way round it would take the rest of the
@@ -51,7 +53,7 @@ pub fn lead<'a>(
     s: &'a [u8],
     c: Cursor,
     sequences: &'a [u32; 224],
-    pictures: &'a [u32; 2048],
+    pictures: &'a [u32; 2304],
 ) -> LeadStep
     ensures { λ r. ⌜ asLead r ≡ bind (lead (tableOf (now (sequences .entry)) (now (pictures .entry))) .read (bitsOf (now (s .entry))) (c .at)) (λ v e. got (ledOf (tableOf (now (sequences .entry)) (now (pictures .entry))) v) e) ⌝ }
 {
@@ -68,7 +70,7 @@ pub fn lead<'a>(
         return LeadStep::Refused(why(a3));
     };
     let a4 = picture_in(pictures, id);
-    let FoundPicture::There(picture) = a4 else {
+    let FoundPicture::There(picture, cycle_width) = a4 else {
         return LeadStep::Refused(refuse_at(NO_PICTURE_SET, id as i64, c2.at));
     };
     let a5 = sequence_in(sequences, picture.seq_parameter_set_id);
@@ -86,6 +88,7 @@ pub fn lead<'a>(
             pic_parameter_set_id: id,
             picture,
             sequence,
+            cycle_width,
         },
         c3,
     )

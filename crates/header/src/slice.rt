@@ -234,6 +234,7 @@ fn behind(
         kind,
         picture,
         sequence,
+        cycle_width: l.cycle_width,
     };
     let a3 = lists_into(s, c, x, l.slice_type, l0, l1);
     let ListsStep::Got(o, c3) = a3 else {
@@ -293,7 +294,7 @@ fn fill<'a>(
     s: &'a [u8],
     kind: UnitKind,
     sequences: &'a [u32; 224],
-    pictures: &'a [u32; 2048],
+    pictures: &'a [u32; 2304],
     numbers: &mut [u32; 57],
     signed: &mut [i32; 7],
     l0: &mut [u32; 198],
@@ -314,6 +315,7 @@ fn fill<'a>(
         kind,
         picture,
         sequence,
+        cycle_width: l.cycle_width,
     };
     let a2 = front(s, c1, x, l.slice_type);
     let FrontStep::Got(f, c2) = a2 else {
@@ -368,7 +370,7 @@ pub fn read_header_into<'a>(
     s: &'a [u8],
     kind: UnitKind,
     sequences: &'a [u32; 224],
-    pictures: &'a [u32; 2048],
+    pictures: &'a [u32; 2304],
     numbers: &mut [u32; 57],
     signed: &mut [i32; 7],
     l0: &mut [u32; 198],

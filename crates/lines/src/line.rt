@@ -72,7 +72,7 @@ fn refused_words(d: &mut [u8; 128], at: usize, r: Refusal) -> usize
 fn answer_words(
     d: &mut [u8; 128],
     at: usize,
-    pictures: &[u32; 2048],
+    pictures: &[u32; 2304],
     unit: &[u8],
     answer: ShortAnswer,
     numbers: &[u32; 57],
@@ -96,7 +96,7 @@ fn answer_words(
 // long need not be at hand.
 pub fn unit_line(
     line: &mut [u8; 128],
-    pictures: &[u32; 2048],
+    pictures: &[u32; 2304],
     place: usize,
     length: usize,
     unit: &[u8],

@@ -111,7 +111,7 @@ struct Next {
 
 fn walk_on<'a>(
     sequences: &'a [u32; 224],
-    pictures: &'a [u32; 2048],
+    pictures: &'a [u32; 2304],
     recording: &[u8],
     from: usize,
     scratch: &mut [u8],
@@ -154,7 +154,7 @@ fn walk_on<'a>(
 // The next line of a listing, by the sets in a table's two arrays, to the front of `line`. Scratch is the walk's.
 pub fn list_step<'a>(
     sequences: &'a [u32; 224],
-    pictures: &'a [u32; 2048],
+    pictures: &'a [u32; 2304],
     recording: &[u8],
     state: State,
     scratch: &mut [u8],

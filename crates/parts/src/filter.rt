@@ -5,7 +5,6 @@ use bits::refusals::BETA_OFFSET;
 use bits::refusals::DEBLOCKING_IDC;
 use bits::refusals::Refusal;
 use bits::refusals::no_refusal;
-use bits::width::change_cycle_width;
 use fields::conditions::both;
 use fields::read::bits_if;
 use fields::read::offset_if;
@@ -62,8 +61,7 @@ pub fn filter(s: &[u8], c: Cursor, x: Context) -> FilterStep
         return FilterStep::Refused(why_signed(a3));
     };
     let rate = x.picture.slice_group_change_rate;
-    let width = change_cycle_width(x.sequence.pic_size_in_map_units, rate);
-    let a4 = bits_if(s, c3, 0 < rate, width);
+    let a4 = bits_if(s, c3, 0 < rate, x.cycle_width);
     let NumberStep::Got(slice_group_change_cycle, c4) = a4 else {
         return FilterStep::Refused(why_number(a4));
     };

@@ -17,7 +17,7 @@ use Rattle.table.specs.declared.sets.Sequence.{Sequence}
 use Rattle.table.specs.declared.table.Table.{Table}
 use Rattle.table.specs.declared.words.Changed.{Changed}
 use Rattle.table.specs.Sets.{sequenceFits, pictureFits}
-use Rattle.table.specs.Tables.{sequencePut, picturePut, putSequence, putPicture}
+use Rattle.table.specs.Tables.{sequencePut, widthsAfter, picturePut, putSequence, putPicture}
 use Rattle.syntax.specs.declared.context.UnitKind.{UnitKind}
 use Rattle.syntax.specs.declared.record.SliceHeader.{SliceHeader}
 use Rattle.syntax.specs.SliceHeader.{header, anySet, readHeader}
@@ -79,7 +79,7 @@ module _ (t : Table) (first : ℕ) (x : ExtensionGiven) (h : SliceHeader) (out :
 -- a refused put alters nothing, and is 24
 module _ (t : Table) (id : ℕ) (r : Refusal) where
   pub demand-1-refused-table-sequence : (s : Sequence) → putSequence t id s .answer ≡ Changed.Refused r → (putSequence t id s .table ≡ t) × (r ≡ refusal 24 (pos 0))
-  unfolding sequencePut
+  unfolding sequencePut widthsAfter
   demand-1-refused-table-sequence s e = cases (leb id 31 && sequenceFits s) (λ g. not-done (rw g at e)) (λ g. (rw g, sym (cc (rw g at e))))
 
   pub demand-1-refused-table-picture : (p : Picture) → putPicture t id p .answer ≡ Changed.Refused r → (putPicture t id p .table ≡ t) × (r ≡ refusal 24 (pos 0))

@@ -1,3 +1,4 @@
+pub mod Sample
 pub mod Marked
 pub mod Numbers
 pub mod Cases
@@ -7,3 +8,4 @@ pub mod Behind
 pub mod Torn
 pub mod Bound
 pub mod BoundWords
+pub mod Widths

@@ -2,3 +2,4 @@ pub mod Marked
 pub mod Demands
 pub mod Behind
 pub mod Bound
+pub mod Before

@@ -8,8 +8,9 @@ use Rattle.bits.specs.Refusals.{Res, got, refusalAt}
 use Rattle.bits.specs.Bits.{bitsOf}
 use Rattle.bits.specs.Codes.{ueAt, seAt}
 use Rattle.bits.specs.Width.{changeCycleWidth}
+use Rattle.table.specs.declared.table.Table.{Table}
 use Rattle.escape.specs.Body.{body}
-use Rattle.syntax.specs.Sample.{sampleTable, sampleHeader}
+use Rattle.syntax.specs.Sample.{sampleHeader}
 use Rattle.syntax.specs.Absent.{noPrefix}
 use Rattle.unit.specs.declared.answer.UnitAnswer.{UnitAnswer}
 use Rattle.unit.specs.declared.answer.UnitRead.{UnitRead}
@@ -35,18 +36,19 @@ pub data Example : Type 0 where
   -- a recording, and its listing with the sample sets
   listed : List ℕ → List ℕ → Example
 
-abbrev pub Holds : Example → Type 0
-Holds (ue s r) = ueAt (bitsOf s) 0 ≡ r
-Holds (se s r) = seAt (bitsOf s) 0 ≡ r
-Holds (unescaped s b) = body 0 s ≡ b
-Holds (unit s r) = unitRead sampleTable s (replicate (length s) 0) .read ≡ r
-Holds (width size rate b) = changeCycleWidth size rate ≡ b
-Holds (walk s rs) = reports sampleTable (replicate (length s) 0) s ≡ rs
-Holds (listed s text) = listing sampleTable (replicate (length s) 0) s ≡ text
+-- with the sets of a table
+abbrev pub Holds : Table → Example → Type 0
+Holds t (ue s r) = ueAt (bitsOf s) 0 ≡ r
+Holds t (se s r) = seAt (bitsOf s) 0 ≡ r
+Holds t (unescaped s b) = body 0 s ≡ b
+Holds t (unit s r) = unitRead t s (replicate (length s) 0) .read ≡ r
+Holds t (width size rate b) = changeCycleWidth size rate ≡ b
+Holds t (walk s rs) = reports t (replicate (length s) 0) s ≡ rs
+Holds t (listed s text) = listing t (replicate (length s) 0) s ≡ text
 
-abbrev pub All : List Example → Type 0
-All [] = Unit {0}
-All (e ∷ es) = Holds e × All es
+abbrev pub All : Table → List Example → Type 0
+All t [] = Unit {0}
+All t (e ∷ es) = Holds t e × All t es
 
 -- the recording of P12
 abbrev pub recording : List ℕ

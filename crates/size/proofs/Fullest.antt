@@ -8,7 +8,7 @@ use lib.ListN.{replicate}
 use Rattle.table.specs.declared.sets.Picture.{Picture}
 use Rattle.table.specs.declared.sets.Sequence.{Sequence}
 use Rattle.table.specs.declared.table.Table.{Table}
-use Rattle.table.specs.Tables.{emptyTable, putSequence, putPicture}
+use Rattle.table.specs.Tables.{emptyTable, sequencePut, picturePut}
 use Rattle.syntax.specs.declared.context.UnitKind.{UnitKind}
 use Rattle.syntax.specs.declared.context.Context.{Context}
 use Rattle.syntax.specs.declared.record.Weight.{Weight}
@@ -54,8 +54,12 @@ fullPicture =
       «slice_group_change_rate» = 1;
     }
 
+abbrev fullSequences : Bool → List ℕ
+fullSequences planes = sequencePut (emptyTable .sequences) 0 (fullSequence planes) .left
+
+-- what two puts make of an empty table, which has no width to set anew
 unfoldable pub fullTable : Bool → Table
-fullTable planes = putPicture (putSequence emptyTable 0 (fullSequence planes) .table) 255 fullPicture .table
+fullTable planes = record { sequences = fullSequences planes; pictures = picturePut (fullSequences planes) (emptyTable .pictures) 255 fullPicture .left }
 
 -- a view's slice, in a picture that others refer to
 abbrev pub fullKind : Bool → UnitKind
@@ -63,7 +67,7 @@ fullKind idr = record { reference = true; idr = idr; mvc = true; svc = false }
 
 -- what the table's sets, under picture set 255, are to the header
 abbrev pub full : Bool → Bool → Context
-full idr planes = record { kind = fullKind idr; picture = fullPicture; sequence = fullSequence planes }
+full idr planes = record { kind = fullKind idr; picture = fullPicture; sequence = fullSequence planes; «cycle_width» = 25 }
 
 -- ---- entries of lists
 

@@ -6,15 +6,13 @@ use mathlib.Core.Bool.{Bool, true, false, not, _&&_}
 use native.Mathlib.Omega.{arith}
 use native.Mathlib.Nat.{mul-suc}
 use borrow.Author.Tests.{leb-false, ne-eqb}
-use lib.Dec.{T, eqb, leb, leb→le, ltb→lt}
+use lib.Dec.{T, eqb, leb, leb→le}
 use lib.IntN.{ℤ, pos, negsuc}
 use lib.ListN.{length, length-append}
 use lib.Signed.{mag}
 use Rattle.bits.specs.Refusals.{pick}
 use Rattle.bits.specs.Codes.{widthOf}
-use Rattle.bits.specs.Width.{changeCycleWidth}
 use Rattle.bits.proofs.Results.{cases}
-use Rattle.bits.proofs.Widths.{width-least}
 use Rattle.fmt.specs.Fmt.{Fmt, seq, shaped, test, when, until}
 use Rattle.fmt.specs.Leaves.{flag, u, ue, se}
 use Rattle.fmt.proofs.Lawful.{both-0, both-1, T-true}
@@ -233,13 +231,6 @@ quantiser-to x k z =
 
 -- ---- disable_deblocking_filter_idc to slice_group_change_cycle
 
-cycle-to : (x : Context) → Sized x → T (isChanging x) → Short (u (changeCycleWidth (x .sequence .«pic_size_in_map_units») (x .picture .«slice_group_change_rate»))) 25
-cycle-to x z g =
-    let r = x .picture .«slice_group_change_rate» in
-    let h = ltb→lt 0 r g in
-    let s = z .sequence .units in
-    u-to _ 25 (width-least (x .sequence .«pic_size_in_map_units») r 25 h (omega arith) (omega arith))
-
 pub filter-to : (x : Context) → Sized x → Short (filter x) filterMost
 unfolding filter
 filter-to x z =
@@ -248,7 +239,7 @@ filter-to x z =
     (then (numberIf-short _ _ 5 (ue-to _ _ _ 2 (λ v g. omega (arith, leb→le v 6 g)))) (λ idc.
     then (signedIf-short _ _ 7 (se-to offsetFits _ _ 3 6 (omega arith) offset-near)) (λ alpha.
     then (signedIf-short _ _ 7 (se-to offsetFits _ _ 3 6 (omega arith) offset-near)) (λ beta.
-    numberIf-pick (isChanging x) _ 25 (cycle-to x z)))))) (pick-le (isChanging x))
+    numberIf-pick (isChanging x) _ 25 (λ g. u-to _ 25 (z .width))))))) (pick-le (isChanging x))
   where
     pick-le : (b : Bool) → 5 + (7 + (7 + pick b 25 0)) ≤ filterMost
     pick-le true = omega arith

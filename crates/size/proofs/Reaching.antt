@@ -19,7 +19,7 @@ use Rattle.syntax.specs.declared.context.Context.{Context}
 use Rattle.syntax.specs.declared.record.Operations.{Operations}
 use Rattle.syntax.specs.Marks.{isZero, numberIf, signedIf, flagIf, given}
 use Rattle.syntax.specs.Lists.{Kind, code, operands, operations, operationsIf}
-use Rattle.syntax.specs.Context.{pictureFor, sequenceIdFor, sequenceFor, contextFor}
+use Rattle.syntax.specs.Context.{pictureFor, widthFor, sequenceIdFor, sequenceFor, contextFor}
 use Rattle.syntax.specs.SliceHeader.{sliceType, pictureSetId, lead, frame, deltas, orderCount, activeMinus1, activeCounts, modificationKind, modification, notScalable, modifications, weight, predWeightTable, markingKind, decRefPicMarking, quantiser, filter}
 use Rattle.size.specs.Size.{leadMost, frameMost, orderMost, countsMost, modificationMost, weightsMost, markingMost, quantiserMost, filterMost, Reached, EachReached}
 use Rattle.size.proofs.Fullest.{most, mostZ, fullTable, fullKind, full, fullModification, fullMarking, fullWeight}
@@ -27,7 +27,7 @@ use Rattle.size.proofs.Has.{Has, has-is, seq-has, shaped-has, again, ag
 
 -- the sets are put, and found
 full-found : (idr planes : Bool) → contextFor (fullTable planes) (fullKind idr) 255 ≡ full idr planes
-unfolding contextFor pictureFor sequenceIdFor sequenceFor fullTable all sequenceFits pictureFits sequencePut picturePut sequenceIn pictureIn sequenceEntry pictureEntry sequenceOf pictureOf sequenceMarks sequenceWords pictureMarks pictureWords numberOf digits
+unfolding contextFor pictureFor widthFor sequenceIdFor sequenceFor fullTable leastFrom changeCycleWidth all sequenceFits pictureFits sequencePut picturePut sequenceIn pictureIn sequenceEntry pictureEntry sequenceOf pictureOf sequenceMarks sequenceWords pictureMarks pictureWords numberOf digits
 full-found true true = refl
 full-found true false = refl
 full-found false true = refl
@@ -49,7 +49,7 @@ reached part such idr planes v H s =
 -- ---- the parts without lists, by computing
 
 lead-has : Has (lead (fullTable false)) (most, (9, 255)) leadMost
-unfolding lead sliceType pictureSetId seq test ue ueBits ueZeros leadingZeros digits sequenceIdFor pictureFor fullTable all sequenceFits pictureFits sequencePut picturePut sequenceIn pictureIn sequenceEntry pictureEntry sequenceOf pictureOf sequenceMarks sequenceWords pictureMarks pictureWords numberOf
+unfolding lead sliceType pictureSetId seq test ue ueBits ueZeros leadingZeros digits sequenceIdFor pictureFor fullTable leastFrom changeCycleWidth all sequenceFits pictureFits sequencePut picturePut sequenceIn pictureIn sequenceEntry pictureEntry sequenceOf pictureOf sequenceMarks sequenceWords pictureMarks pictureWords numberOf
 lead-has = record { is-good = tt; size = refl }
 
 frame-has : Has (frame (full true true))
@@ -100,7 +100,7 @@ filter-has : Has (filter (full false false))
       «slice_beta_offset_div2» = record { there = true; value = negsuc 5 };
       «slice_group_change_cycle» = record { there = true; value = 33554431 };
     }) filterMost
-unfolding filter seq shaped test when numberIf signedIf u ue se seCode ueBits ueZeros leadingZeros digits leastFrom changeCycleWidth
+unfolding filter seq shaped test when numberIf signedIf u ue se seCode ueBits ueZeros leadingZeros digits
 filter-has = record { is-good = tt; size = refl }
 
 -- ---- lists of modifications

@@ -6,6 +6,7 @@ pub mod Sets
 pub mod Goods
 pub mod Whole
 pub mod Header
+pub mod Before
 pub mod Sizes
 pub mod ListSizes
 pub mod HeaderSize

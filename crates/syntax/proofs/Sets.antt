@@ -14,12 +14,12 @@ pub record Few (p : Picture) : Type 0 where
   pub l0 : p .«num_ref_idx_l0_default_active_minus1» ≤ 31
   pub l1 : p .«num_ref_idx_l1_default_active_minus1» ≤ 31
 
-few : (f : FoundPicture) → ((p : Picture) → f ≡ FoundPicture.There p → Few p) → Few (pictureIn f)
-few (FoundPicture.There p) h = h p refl
+few : (f : FoundPicture) → ((p : Picture) (w : ℕ) → f ≡ FoundPicture.There p w → Few p) → Few (pictureIn f)
+few (FoundPicture.There p w) h = h p w refl
 few FoundPicture.Absent h = record { l0 = omega arith; l1 = omega arith }
 
 pub defaults-few : (t : Table) (id : ℕ) → Few (pictureFor t id)
 unfolding pictureFor
 defaults-few t id =
     few (pictureAt t id)
-    (λ p e. let r = found-picture-ranges (t .pictures) id p e in record { l0 = r .active0-most; l1 = r .active1-most })
+    (λ p w e. let r = found-picture-ranges (t .pictures) id p w e in record { l0 = r .active0-most; l1 = r .active1-most })

@@ -37,7 +37,7 @@ hasL0 k = isP k || (isSP k || isB k)
 -- ---- the sets that a picture set id names
 
 abbrev pub isThere : FoundPicture → Bool
-isThere (FoundPicture.There p) = true
+isThere (FoundPicture.There p w) = true
 isThere FoundPicture.Absent = false
 
 abbrev pub isThereToo : FoundSequence → Bool
@@ -77,8 +77,12 @@ noSequence =
     }
 
 abbrev pub pictureIn : FoundPicture → Picture
-pictureIn (FoundPicture.There p) = p
+pictureIn (FoundPicture.There p w) = p
 pictureIn FoundPicture.Absent = noPicture
+
+abbrev pub widthIn : FoundPicture → ℕ
+widthIn (FoundPicture.There p w) = w
+widthIn FoundPicture.Absent = 0
 
 abbrev pub sequenceIn : FoundSequence → Sequence
 sequenceIn (FoundSequence.There s) = s
@@ -87,6 +91,10 @@ sequenceIn FoundSequence.Absent = noSequence
 unfoldable pub pictureFor : Table → ℕ → Picture
 pictureFor t id = pictureIn (pictureAt t id)
 
+-- the change cycle's width as it stands in the table, true or not
+unfoldable pub widthFor : Table → ℕ → ℕ
+widthFor t id = widthIn (pictureAt t id)
+
 unfoldable pub sequenceIdFor : Table → ℕ → ℕ
 sequenceIdFor t id = pictureFor t id .«seq_parameter_set_id»
 
@@ -94,7 +102,7 @@ unfoldable pub sequenceFor : Table → ℕ → Sequence
 sequenceFor t id = sequenceIn (sequenceAt t (sequenceIdFor t id))
 
 unfoldable pub contextFor : Table → UnitKind → ℕ → Context
-contextFor t n id = record { kind = n; picture = pictureFor t id; sequence = sequenceFor t id }
+contextFor t n id = record { kind = n; picture = pictureFor t id; sequence = sequenceFor t id; «cycle_width» = widthFor t id }
 
 -- ---- conditions of 7.3.3 on the sets
 

@@ -8,7 +8,6 @@ use lib.IntN.{ℤ, pos, negsuc}
 use lib.ListN.{length, take, drop}
 use Rattle.bits.specs.Refusals.{Res, got, no, bind, pick, refusalAt}
 use Rattle.bits.specs.Bits.{Bits}
-use Rattle.bits.specs.Width.{changeCycleWidth}
 use Rattle.fmt.specs.Fmt.{Fmt, nothing, seq, shaped, test, when, times}
 use Rattle.fmt.specs.Leaves.{flag, u, ue, se}
 use Rattle.fmt.specs.Arrays.{pad, padded}
@@ -257,7 +256,7 @@ filter x =
     (seq (numberIf (x .picture .«deblocking_filter_control_present_flag») (test (λ n. leb n 6) 18 pos ue)) (λ idc.
     seq (signedIf (idc .there && not (eqb (idc .value) 1)) (test offsetFits 19 (λ d. d) se)) (λ alpha.
     seq (signedIf (idc .there && not (eqb (idc .value) 1)) (test offsetFits 20 (λ d. d) se)) (λ beta.
-    numberIf (isChanging x) (u (changeCycleWidth (x .sequence .«pic_size_in_map_units») (x .picture .«slice_group_change_rate»)))))))
+    numberIf (isChanging x) (u (x .«cycle_width»))))))
 
 -- ---- slice_header( ), whole
 

@@ -30,4 +30,6 @@ pub struct Context {
     pub kind: UnitKind,
     pub picture: Picture,
     pub sequence: Sequence,
+    // how wide slice_group_change_cycle is, as the table has it with the picture set
+    pub cycle_width: u32,
 }

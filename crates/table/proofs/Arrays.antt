@@ -14,6 +14,7 @@ use Rattle.bits.specs.Refusals.{pick}
 use Rattle.table.specs.declared.words.Changed.{Changed}
 use Rattle.table.specs.Sets.{all}
 use Rattle.table.specs.Tables.{Put, putWords}
+use Rattle.table.proofs.Tests.{is-it}
 use Rattle.table.proofs.Looking.{Local, look, entryBy}
 use Rattle.table.proofs.Storing.{refused, put-done}
 
@@ -108,20 +109,27 @@ module _ {S F : Type 0} (K : Kind S F) where
       (λ i l. List·getD-append (K .words s) (drop (id * K .width + length (K .words s)) t) 0 i (omega (arith, K .sized s)))
       ∙ entry-back s g)
 
-  -- each other entry is as before
-  pub put-other : (t : List ℕ) (id j : ℕ) (s : S) → (j ≡ id → ⊥) → lookIn (putIn t id s .left) j ≡ lookIn t j
-  put-other t id j s h = by (leb id (K .last) && K .fits s)
-    where
-      kept : (i : ℕ) → i < K .width → getD (drop (j * K .width) (sets t (id * K .width) (K .words s))) i 0 ≡ getD (drop (j * K .width) t) i 0
-      kept i l =
-          getD-drop (j * K .width) (sets t (id * K .width) (K .words s)) i 0
-          ∙ getD-sets-other (K .words s) t (id * K .width) (j * K .width + i)
-          (λ m u e. h (sym (digits-div j l) ∙ ap (λ (x : ℕ). x / K .width) e ∙ digits-div id (omega (arith, K .sized s))))
-          ∙ sym (getD-drop (j * K .width) t i 0)
+  -- each other entry is as before, word by word
+  sets-other : (t : List ℕ) (id j : ℕ) (s : S) → (j ≡ id → ⊥) → (i : ℕ) → i < K .width → getD (sets t (id * K .width) (K .words s)) (j * K .width + i) 0 ≡ getD t (j * K .width + i) 0
+  sets-other t id j s h i l =
+      getD-sets-other (K .words s) t (id * K .width) (j * K .width + i)
+      (λ m u e. h (sym (digits-div j l) ∙ ap (λ (x : ℕ). x / K .width) e ∙ digits-div id (omega (arith, K .sized s))))
 
-      by : (b : Bool) → lookIn (putWords b t (id * K .width) (K .words s) .left) j ≡ lookIn t j
-      by true = ap (λ (f : F). pick (leb j (K .last)) f (K .absent)) (K .same _ _ kept)
+  pub put-words-other : (t : List ℕ) (id j : ℕ) (s : S) → (j ≡ id → ⊥) → (i : ℕ) → i < K .width → getD (putIn t id s .left) (j * K .width + i) 0 ≡ getD t (j * K .width + i) 0
+  put-words-other t id j s h i l = by (leb id (K .last) && K .fits s)
+    where
+      by : (b : Bool) → getD (putWords b t (id * K .width) (K .words s) .left) (j * K .width + i) 0 ≡ getD t (j * K .width + i) 0
+      by true = sets-other t id j s h i l
       by false = refl
+
+  -- an entry is what its words say
+  pub look-same : (t u : List ℕ) (j : ℕ) → ((i : ℕ) → i < K .width → getD t (j * K .width + i) 0 ≡ getD u (j * K .width + i) 0) → lookIn t j ≡ lookIn u j
+  look-same t u j h =
+      ap (λ (f : F). pick (leb j (K .last)) f (K .absent))
+      (K .same _ _ (λ i l. getD-drop (j * K .width) t i 0 ∙ h i l ∙ sym (getD-drop (j * K .width) u i 0)))
+
+  pub put-other : (t : List ℕ) (id j : ℕ) (s : S) → (j ≡ id → ⊥) → lookIn (putIn t id s .left) j ≡ lookIn t j
+  put-other t id j s h = look-same _ t j (put-words-other t id j s h)
 
   pub put-answer : (t : List ℕ) (id : ℕ) (s : S) → id ≤ K .last → K .fits s ≡ true → putIn t id s .answer ≡ Changed.Done
   put-answer t id s k g = ap (λ (p : Put). p .answer) (put-done (K .last) id (K .fits s) t (id * K .width) (K .words s) k g)
@@ -144,3 +152,25 @@ module _ {S F : Type 0} (K : Kind S F) where
       by : (b : Bool) → pick b (entryIn (drop (id * K .width) (replicate n 0))) (K .absent) ≡ K .absent
       by true = entry-blank _ (getD-drop (id * K .width) (replicate n 0) 0 0 ∙ zeros n (id * K .width + 0))
       by false = refl
+
+  -- ---- entries that hold nothing are all zero
+
+  abbrev pub Blank : List ℕ → Type 0
+  Blank t = (id : ℕ) → id ≤ K .last → lookIn t id ≡ K .absent → (i : ℕ) → i < K .width → getD t (id * K .width + i) 0 ≡ 0
+
+  pub empty-blank : (n : ℕ) → Blank (replicate n 0)
+  empty-blank n id h e i l = zeros n (id * K .width + i)
+
+  pub put-blank : (t : List ℕ) (id : ℕ) (s : S) → Whole t → Blank t → Blank (putIn t id s .left)
+  put-blank t id s z h = by (leb id (K .last)) (K .fits s) refl refl
+    where
+      one : (j : ℕ) → Dec (j ≡ id) → id ≤ K .last → K .fits s ≡ true → j ≤ K .last → lookIn (putIn t id s .left) j ≡ K .absent → (i : ℕ) → i < K .width
+          → getD (putIn t id s .left) (j * K .width + i) 0 ≡ 0
+      one j (yes e) k g m a i l =
+          absurd (K .apart s (sym a ∙ ap (λ (x : ℕ). lookIn (putIn t id s .left) x) e ∙ put-there t id s z k g))
+      one j (no e) k g m a i l = put-words-other t id j s e i l ∙ h j m (sym (put-other t id j s e) ∙ a) i l
+
+      by : (a b : Bool) → leb id (K .last) ≡ a → K .fits s ≡ b → Blank (putIn t id s .left)
+      by true true ea eb = λ j m a i l. one j (is-it j id) (leb-true id (K .last) ea) eb m a i l
+      by true false ea eb = let e : leb id (K .last) && K .fits s ≡ false = rw (ea, eb) in rw (put-refused t id s e) h
+      by false b ea eb = let e : leb id (K .last) && K .fits s ≡ false = rw ea in rw (put-refused t id s e) h

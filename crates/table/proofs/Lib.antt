@@ -5,9 +5,12 @@ pub mod Storing
 pub mod Ranges
 pub mod Arrays
 pub mod Entries
+pub mod Renewed
+pub mod Widths
 pub mod Walking
 pub mod Fields
 pub mod Values
 pub mod LookShell
-pub mod PutShell
+pub mod BothShell
+pub mod BesideShell
 pub mod WithShell

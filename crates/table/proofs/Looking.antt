@@ -15,8 +15,8 @@ use Rattle.table.specs.declared.sets.Picture.{Picture}
 use Rattle.table.specs.declared.words.FoundSequence.{FoundSequence}
 use Rattle.table.specs.declared.words.FoundPicture.{FoundPicture}
 use Rattle.table.specs.Sets.{between, all, pictureFits}
-use Rattle.table.specs.Tables.{flagIn, sequenceOf, sequenceTests, sequenceEntry, sequenceIn, pictureOf, pictureTests, pictureEntry, pictureIn}
-use Rattle.table.proofs.Tests.{both, one-fails, next, last}
+use Rattle.table.specs.Tables.{flagIn, sequenceOf, sequenceTests, sequenceEntry, sequenceIn, widthIn, pictureOf, pictureTests, pictureEntry, pictureIn}
+use Rattle.table.proofs.Tests.{both, one-fails, next, but-last}
 use Rattle.table.proofs.Signs.{lowered-high}
 
 -- ---- reading word by word
@@ -90,24 +90,29 @@ module _ (t : List ℕ) (id : ℕ) (h : id ≤ 31) where
 
 -- ---- picture sets
 
-pub same-picture : Local 8 pictureEntry
-unfolding pictureEntry pictureOf
-same-picture w v h =
+-- the set is in the words before the width
+pub same-set : Local 8 pictureOf
+unfolding pictureOf
+same-set w v h =
     rw
     (h 0 (lit< tt), h 1 (lit< tt), h 2 (lit< tt), h 3 (lit< tt), h 4 (lit< tt), h 5 (lit< tt), h 6 (lit< tt), h 7 (lit< tt))
 
+pub same-picture : Local 9 pictureEntry
+unfolding pictureEntry
+same-picture w v h = rw (h 0 (lit< tt), same-set w v (λ i l. h i (omega arith)), h 8 (lit< tt))
+
 pub picture-past : (t : List ℕ) (id : ℕ) → 255 < id → pictureIn t id ≡ FoundPicture.Absent
 unfolding pictureIn
-picture-past = look-past 8 255 pictureEntry FoundPicture.Absent
+picture-past = look-past 9 255 pictureEntry FoundPicture.Absent
 
 module _ (t : List ℕ) (id : ℕ) (h : id ≤ 255) where
-  pub picture-none : all (pictureTests (entryAt t (id * 8) 7)) ≡ false → pictureIn t id ≡ FoundPicture.Absent
+  pub picture-none : all (pictureTests (entryAt t (id * 9) 8)) ≡ false → pictureIn t id ≡ FoundPicture.Absent
   unfolding pictureIn pictureEntry
-  picture-none = look-none 7 255 pictureTests (λ w. FoundPicture.There (pictureOf w)) FoundPicture.Absent same-picture t id h
+  picture-none = look-none 8 255 pictureTests (λ w. FoundPicture.There (pictureOf w) (widthIn w)) FoundPicture.Absent same-picture t id h
 
-  pub picture-there : all (pictureTests (entryAt t (id * 8) 7)) ≡ true → pictureIn t id ≡ FoundPicture.There (pictureOf (entryAt t (id * 8) 7))
+  pub picture-there : all (pictureTests (entryAt t (id * 9) 8)) ≡ true → pictureIn t id ≡ FoundPicture.There (pictureOf (entryAt t (id * 9) 8)) (widthIn (entryAt t (id * 9) 8))
   unfolding pictureIn pictureEntry
-  picture-there = look-there 7 255 pictureTests (λ w. FoundPicture.There (pictureOf w)) FoundPicture.Absent same-picture t id h
+  picture-there = look-there 8 255 pictureTests (λ w. FoundPicture.There (pictureOf w) (widthIn w)) FoundPicture.Absent same-picture t id h
 
 -- the words' set, with the signed fields as they were made
 abbrev pub madePicture : List ℕ → ℤ → ℤ → Picture
@@ -142,16 +147,18 @@ qs-high w h = one-fails _ 5 (rw (lowered-high (getD w 6 0) 26 (leb-false _ 51 h)
 
 -- the tests that are made before the signed fields are
 abbrev pub plausible : List ℕ → Bool
-plausible w = between 32 63 (getD w 0 0) && (leb (getD w 5 0) 87 && leb (getD w 6 0) 51)
+plausible w = between 32 63 (getD w 0 0) && (leb (getD w 5 0) 87 && (leb (getD w 6 0) 51 && leb (widthIn w) 25))
 
 pub picture-unmade : (w : List ℕ) → plausible w ≡ false → all (pictureTests w) ≡ false
-picture-unmade w h = by (between 32 63 (getD w 0 0)) (leb (getD w 5 0) 87) (leb (getD w 6 0) 51) refl refl refl h
+picture-unmade w h = by (between 32 63 (getD w 0 0)) (leb (getD w 5 0) 87) (leb (getD w 6 0) 51) (leb (widthIn w) 25) refl refl refl refl h
   where
-    by : (a b c : Bool) → between 32 63 (getD w 0 0) ≡ a → leb (getD w 5 0) 87 ≡ b → leb (getD w 6 0) 51 ≡ c → a && (b && c) ≡ false → all (pictureTests w) ≡ false
-    by false b c ea eb ec h = one-fails _ 0 ea
-    by true false c ea eb ec h = one-fails _ 1 (qp-high w eb)
-    by true true false ea eb ec h = one-fails _ 1 (qs-high w ec)
-    by true true true ea eb ec h = absurd (true≢false h)
+    by : (a b c d : Bool) → between 32 63 (getD w 0 0) ≡ a → leb (getD w 5 0) 87 ≡ b → leb (getD w 6 0) 51 ≡ c → leb (widthIn w) 25 ≡ d → a && (b && (c && d)) ≡ false
+        → all (pictureTests w) ≡ false
+    by false b c d ea eb ec ed h = one-fails _ 0 ea
+    by true false c d ea eb ec ed h = one-fails _ 1 (qp-high w eb)
+    by true true false d ea eb ec ed h = one-fails _ 1 (qs-high w ec)
+    by true true true false ea eb ec ed h = one-fails _ 2 ed
+    by true true true true ea eb ec ed h = absurd (true≢false h)
 
 -- and what they leave
 pub record Plausible (w : List ℕ) : Type 0 where
@@ -162,5 +169,6 @@ pub record Plausible (w : List ℕ) : Type 0 where
 pub picture-made : (w : List ℕ) → plausible w ≡ true → Plausible w
 picture-made w h =
     let a = both (between 32 63 (getD w 0 0)) _ h in
-    let b = both (leb (getD w 5 0) 87) (leb (getD w 6 0) 51) (a .1) in
-    record { rest = next _ (a .0) ∙ last _; qp = leb-true _ 87 (b .0); qs = leb-true _ 51 (b .1) }
+    let b = both (leb (getD w 5 0) 87) _ (a .1) in
+    let c = both (leb (getD w 6 0) 51) (leb (widthIn w) 25) (b .1) in
+    record { rest = next _ (a .0) ∙ but-last _ (c .1); qp = leb-true _ 87 (b .0); qs = leb-true _ 51 (c .0) }

@@ -13,8 +13,9 @@ use Rattle.bits.specs.Refusals.{refusal}
 use Rattle.table.specs.declared.sets.Picture.{Picture}
 use Rattle.table.specs.declared.sets.Sequence.{Sequence}
 use Rattle.table.specs.declared.words.Changed.{Changed}
+use Rattle.table.specs.declared.words.FoundSequence.{FoundSequence}
 use Rattle.table.specs.Sets.{sequenceFits, pictureFits}
-use Rattle.table.specs.Tables.{Put, putWords, tableField, sequenceMarks, sequenceWords, sequencePut, pictureMarks, pictureWords, picturePut}
+use Rattle.table.specs.Tables.{Put, putWords, tableField, sequenceMarks, sequenceWords, sequencePut, renewed, widthsAfter, cycleWidth, sequenceIn, pictureMarks, pictureWords, picturePut}
 
 abbrev storeFrom : List ℕ → ℕ → ℕ → List ℕ → List ℕ
 storeFrom t k j [] = t
@@ -71,6 +72,24 @@ module _ (t : List ℕ) (id : ℕ) (s : Sequence) where
   unfolding sequencePut
   sequence-put-stored h g = put-stored 31 id (sequenceFits s) t (id * 7) (sequenceWords s) h g
 
+-- the picture sets then
+module _ (t : List ℕ) (id : ℕ) (s : Sequence) where
+  pub widths-past : 31 < id → widthsAfter t id s ≡ t
+  unfolding widthsAfter
+  widths-past h = rw (lt-leb id 31 h)
+
+  pub widths-unfit : sequenceFits s ≡ false → widthsAfter t id s ≡ t
+  unfolding widthsAfter
+  widths-unfit h = rw (h, and-false (leb id 31))
+
+  pub widths-done : id ≤ 31 → sequenceFits s ≡ true → widthsAfter t id s ≡ renewed id (s .«pic_size_in_map_units») t 256
+  unfolding widthsAfter
+  widths-done h g = rw (le-leb id 31 h, g)
+
+-- what a put answers and leaves, of both arrays
+pub with-widths : {p q : Put} {v w : List ℕ} → p ≡ q → v ≡ w → (q .answer ≡ p .answer) × ((q .left ≡ p .left) × (w ≡ v))
+with-widths e f = (parts e .0, (parts e .1, sym f))
+
 -- the words, with the first as a call gives it
 pub sequence-words : (s : Sequence) {m : ℕ} → m ≡ sequenceMarks s
     → m ∷ s .«chroma_format_idc» ∷ s .«bit_depth_luma_minus8» ∷ s .«log2_max_frame_num» ∷ s .«pic_order_cnt_type» ∷ s .«log2_max_pic_order_cnt_lsb_minus4»
@@ -80,24 +99,30 @@ sequence-words s em = rw em
 
 -- ---- picture sets
 
-module _ (t : List ℕ) (id : ℕ) (p : Picture) where
-  pub picture-put-past : 255 < id → picturePut t id p ≡ refused t
-  unfolding picturePut
-  picture-put-past = put-past 255 id (pictureFits p) t (id * 8) (pictureWords p)
+module _ (s t : List ℕ) (id : ℕ) (p : Picture) where
+  -- the words that are put
+  abbrev pub words : List ℕ
+  words = pictureWords p (cycleWidth (sequenceIn s (p .«seq_parameter_set_id»)) (p .«slice_group_change_rate»))
 
-  pub picture-put-unfit : pictureFits p ≡ false → picturePut t id p ≡ refused t
+  pub picture-put-past : 255 < id → picturePut s t id p ≡ refused t
   unfolding picturePut
-  picture-put-unfit = put-unfit 255 id (pictureFits p) t (id * 8) (pictureWords p)
+  picture-put-past = put-past 255 id (pictureFits p) t (id * 9) words
 
-  pub picture-put-stored : id ≤ 255 → pictureFits p ≡ true → (m : ℕ) (v : List ℕ) → m ∷ v ≡ pictureWords p
-      → picturePut t id p ≡ record { answer = Changed.Done; left = storeAt t (id * 8) m v }
+  pub picture-put-unfit : pictureFits p ≡ false → picturePut s t id p ≡ refused t
   unfolding picturePut
-  picture-put-stored h g = put-stored 255 id (pictureFits p) t (id * 8) (pictureWords p) h g
+  picture-put-unfit = put-unfit 255 id (pictureFits p) t (id * 9) words
 
--- the words, with each signed field's as a call gives it
-pub picture-words : (p : Picture) {m qp qs : ℕ}
+  pub picture-put-stored : id ≤ 255 → pictureFits p ≡ true → (m : ℕ) (v : List ℕ) → m ∷ v ≡ words
+      → picturePut s t id p ≡ record { answer = Changed.Done; left = storeAt t (id * 9) m v }
+  unfolding picturePut
+  picture-put-stored h g = put-stored 255 id (pictureFits p) t (id * 9) words h g
+
+-- the words, with each signed field's and the width as a call gives it
+pub picture-words : (s : List ℕ) (p : Picture) {m qp qs width : ℕ} {found : FoundSequence}
     → m ≡ pictureMarks p → qp ≡ natAbs (p .«pic_init_qp_minus26» +ℤ pos 62) → qs ≡ natAbs (p .«pic_init_qs_minus26» +ℤ pos 26)
+    → width ≡ cycleWidth found (p .«slice_group_change_rate») → found ≡ sequenceIn s (p .«seq_parameter_set_id»)
     → m ∷ p .«seq_parameter_set_id» ∷ p .«num_ref_idx_l0_default_active_minus1» ∷ p .«num_ref_idx_l1_default_active_minus1»
-    ∷ p .«weighted_bipred_idc» ∷ qp ∷ qs ∷ p .«slice_group_change_rate» ∷ [] ≡ pictureWords p
+    ∷ p .«weighted_bipred_idc» ∷ qp ∷ qs ∷ p .«slice_group_change_rate» ∷ width ∷ []
+    ≡ pictureWords p (cycleWidth (sequenceIn s (p .«seq_parameter_set_id»)) (p .«slice_group_change_rate»))
 unfolding pictureWords
-picture-words p em eqp eqs = rw (em, eqp, eqs)
+picture-words s p em eqp eqs ew ef = rw (em, eqp, eqs, ew, ef)

@@ -3,8 +3,8 @@ use mathlib.Core.Path.{_≡_, refl, sym, _∙_}
 use mathlib.Core.Bool.{Bool, true, false, not, _&&_, and-true, true≢false}
 use mathlib.Core.List.{List, [], _∷_}
 use Prim.Native.Nat.{ℕ, zero, suc}
-use borrow.Author.Tests.{not-true, not-false, ltb-true, ltb-false, le-leb, lt-leb}
-use lib.Dec.{ltb, leb}
+use borrow.Author.Tests.{not-true, not-false, ltb-true, ltb-false, eqb-true, eqb-false, le-leb, lt-leb}
+use lib.Dec.{ltb, leb, eqb}
 use lib.IntN.{ℤ, pos, negsuc}
 use lib.ListN.{getD}
 use lib.Signed.{ltZ, leZ}
@@ -33,6 +33,14 @@ pub last : (b : Bool) → all (b ∷ []) ≡ b
 unfolding all
 last b = and-true b
 
+-- the last test of two holds
+pub but-last : (b : Bool) {d : Bool} → d ≡ true → all (b ∷ d ∷ []) ≡ b
+unfolding all
+but-last b h = rw h (and-true b)
+
+pub joined : {a b : Bool} → a ≡ true → b ≡ true → a && b ≡ true
+joined f g = rw (f, g)
+
 abbrev pub Each : List Bool → Type 0
 Each [] = Unit {0}
 Each (b ∷ l) = (b ≡ true) × Each l
@@ -55,6 +63,15 @@ held e h = sym e ∙ not-false _ h
 pub two : {a b x y r : Bool} → r ≡ x && y → x ≡ a → y ≡ b → all (a ∷ b ∷ []) ≡ r
 unfolding all
 two {b = b} e f g = rw (e, f, g, and-true b)
+
+-- ---- two numbers are one, or not
+
+pub is-it : (a b : ℕ) → Dec (a ≡ b)
+is-it a b = by (eqb a b) refl
+  where
+    by : (t : Bool) → eqb a b ≡ t → Dec (a ≡ b)
+    by true e = yes (eqb-true a b e)
+    by false e = no (eqb-false a b e)
 
 -- ---- the two orders
 

@@ -1,13 +1,14 @@
 -- The parameter table: what an entry holds, looking up, and putting (docs/RULES.md, 'Sizes').
-use Prim.Native.Nat.{ℕ, _*_, _/_, _%_, _^_}
+use Prim.Native.Nat.{ℕ, zero, suc, _+_, _*_, _/_, _%_, _^_}
 use mathlib.Core.List.{List, [], _∷_}
 use mathlib.Core.Bool.{Bool, true, _&&_}
 use lib.Dec.{leb, eqb}
 use lib.IntN.{pos, natAbs, _+ℤ_, _-ℤ_}
-use lib.ListN.{getD, drop, replicate}
+use lib.ListN.{getD, drop, set, replicate}
 use lib.Seq.{sets}
 use Rattle.bits.specs.Refusals.{pick, refusal}
 use Rattle.bits.specs.Bits.{numberOf}
+use Rattle.bits.specs.Width.{changeCycleWidth}
 use Rattle.table.specs.declared.sets.Sequence.{Sequence}
 use Rattle.table.specs.declared.sets.Picture.{Picture}
 use Rattle.table.specs.declared.words.FoundSequence.{FoundSequence}
@@ -61,8 +62,9 @@ pictureMarks p =
     numberOf
     (true ∷ p .«entropy_coding_mode_flag» ∷ p .«bottom_field_pic_order_in_frame_present_flag» ∷ p .«weighted_pred_flag» ∷ p .«deblocking_filter_control_present_flag» ∷ p .«redundant_pic_cnt_present_flag» ∷ [])
 
-unfoldable pub pictureWords : Picture → List ℕ
-pictureWords p =
+-- a picture set's last word is its change cycle's width
+unfoldable pub pictureWords : Picture → ℕ → List ℕ
+pictureWords p width =
     pictureMarks p
     ∷ p .«seq_parameter_set_id»
     ∷ p .«num_ref_idx_l0_default_active_minus1»
@@ -71,7 +73,11 @@ pictureWords p =
     ∷ natAbs (p .«pic_init_qp_minus26» +ℤ pos 62)
     ∷ natAbs (p .«pic_init_qs_minus26» +ℤ pos 26)
     ∷ p .«slice_group_change_rate»
+    ∷ width
     ∷ []
+
+abbrev pub widthIn : List ℕ → ℕ
+widthIn w = getD w 8 0
 
 unfoldable pub pictureOf : List ℕ → Picture
 pictureOf w =
@@ -90,7 +96,8 @@ pictureOf w =
       «slice_group_change_rate» = getD w 7 0;
     }
 
--- ---- looking up: an entry holds a set where its first word is the mark and flags, no more, and the set is within the ranges; any other counts as not there
+-- ---- looking up: an entry holds a set where its first word is the mark and flags, no more, the set is within the ranges, and the width is at most 25; any other
+-- counts as not there
 
 abbrev pub sequenceTests : List ℕ → List Bool
 sequenceTests w = between 8 15 (getD w 0 0) ∷ sequenceFits (sequenceOf w) ∷ []
@@ -99,16 +106,16 @@ unfoldable pub sequenceEntry : List ℕ → FoundSequence
 sequenceEntry w = pick (all (sequenceTests w)) (FoundSequence.There (sequenceOf w)) FoundSequence.Absent
 
 abbrev pub pictureTests : List ℕ → List Bool
-pictureTests w = between 32 63 (getD w 0 0) ∷ pictureFits (pictureOf w) ∷ []
+pictureTests w = between 32 63 (getD w 0 0) ∷ pictureFits (pictureOf w) ∷ leb (widthIn w) 25 ∷ []
 
 unfoldable pub pictureEntry : List ℕ → FoundPicture
-pictureEntry w = pick (all (pictureTests w)) (FoundPicture.There (pictureOf w)) FoundPicture.Absent
+pictureEntry w = pick (all (pictureTests w)) (FoundPicture.There (pictureOf w) (widthIn w)) FoundPicture.Absent
 
 unfoldable pub sequenceIn : List ℕ → ℕ → FoundSequence
 sequenceIn t id = pick (leb id 31) (sequenceEntry (drop (id * 7) t)) FoundSequence.Absent
 
 unfoldable pub pictureIn : List ℕ → ℕ → FoundPicture
-pictureIn t id = pick (leb id 255) (pictureEntry (drop (id * 8) t)) FoundPicture.Absent
+pictureIn t id = pick (leb id 255) (pictureEntry (drop (id * 9) t)) FoundPicture.Absent
 
 abbrev pub sequenceAt : Table → ℕ → FoundSequence
 sequenceAt t id = sequenceIn (t .sequences) id
@@ -130,17 +137,43 @@ putWords good t at w =
 unfoldable pub sequencePut : List ℕ → ℕ → Sequence → Put
 sequencePut t id s = putWords (leb id 31 && sequenceFits s) t (id * 7) (sequenceWords s)
 
-unfoldable pub picturePut : List ℕ → ℕ → Picture → Put
-picturePut t id p = putWords (leb id 255 && pictureFits p) t (id * 8) (pictureWords p)
+-- the width of slice_group_change_cycle for a picture set with this change rate, by what is found under its sequence set's id: 0 where that is not there, or where
+-- the rate is absent
+abbrev pub cycleWidth : FoundSequence → ℕ → ℕ
+cycleWidth (FoundSequence.There s) rate = changeCycleWidth (s .«pic_size_in_map_units») rate
+cycleWidth FoundSequence.Absent rate = 0
+
+unfoldable pub picturePut : List ℕ → List ℕ → ℕ → Picture → Put
+picturePut s t id p =
+    putWords (leb id 255 && pictureFits p) t (id * 9)
+    (pictureWords p (cycleWidth (sequenceIn s (p .«seq_parameter_set_id»)) (p .«slice_group_change_rate»)))
+
+-- a new sequence set: entry j has its width anew, where it holds a set that names it
+abbrev pub renewedBy : ℕ → ℕ → List ℕ → ℕ → FoundPicture → List ℕ
+renewedBy id size t j (FoundPicture.There p w) =
+    pick (eqb (p .«seq_parameter_set_id») id) (set t (j * 9 + 8) (changeCycleWidth size (p .«slice_group_change_rate»))) t
+renewedBy id size t j FoundPicture.Absent = t
+
+-- and so have the first n entries, one after the other
+unfoldable pub renewed : ℕ → ℕ → List ℕ → ℕ → List ℕ
+renewed id size t zero = t
+renewed id size t (suc n) = renewedBy id size (renewed id size t n) n (pictureIn (renewed id size t n) n)
+
+-- the picture sets after a sequence set is put
+unfoldable pub widthsAfter : List ℕ → ℕ → Sequence → List ℕ
+widthsAfter t id s = pick (leb id 31 && sequenceFits s) (renewed id (s .«pic_size_in_map_units») t 256) t
 
 abbrev pub putSequence : Table → ℕ → Sequence → WithTable
 putSequence t id s =
-    record { answer = sequencePut (t .sequences) id s .answer; table = record { sequences = sequencePut (t .sequences) id s .left; pictures = t .pictures } }
+    record { answer = sequencePut (t .sequences) id s .answer; table = record { sequences = sequencePut (t .sequences) id s .left; pictures = widthsAfter (t .pictures) id s } }
 
 abbrev pub putPicture : Table → ℕ → Picture → WithTable
 putPicture t id p =
-    record { answer = picturePut (t .pictures) id p .answer; table = record { sequences = t .sequences; pictures = picturePut (t .pictures) id p .left } }
+    record {
+      answer = picturePut (t .sequences) (t .pictures) id p .answer;
+      table = record { sequences = t .sequences; pictures = picturePut (t .sequences) (t .pictures) id p .left };
+    }
 
 -- the table starts empty
 abbrev pub emptyTable : Table
-emptyTable = record { sequences = replicate 224 0; pictures = replicate 2048 0 }
+emptyTable = record { sequences = replicate 224 0; pictures = replicate 2304 0 }

@@ -1,4 +1,4 @@
-// The table, lent. Each function here is a shell of one call that lends an array of the table to a function of `words`: nothing copies the table.
+// The table, lent. Each function here is a shell of one call that lends the table's arrays, one or both, to a function of `words`: nothing copies the table.
 use crate::sets::Picture;
 use crate::sets::Sequence;
 use crate::words::Changed;
@@ -14,7 +14,7 @@ ghost use Rattle.table.specs.Tables.{emptyTable, sequenceAt, pictureAt, 
 #[repr(C)]
 pub struct Table {
     pub sequences: [u32; 224],
-    pub pictures: [u32; 2048],
+    pub pictures: [u32; 2304],
 }
 
 // A table's answer beside the table, where it goes by value.
@@ -29,7 +29,7 @@ pub fn empty() -> Table
 {
     Table {
         sequences: [0; 224],
-        pictures: [0; 2048],
+        pictures: [0; 2304],
     }
 }
 
@@ -48,13 +48,13 @@ pub fn picture_at(t: &Table, id: u32) -> FoundPicture
 pub fn put_sequence(t: &mut Table, id: u32, s: Sequence) -> Changed
     ensures { λ r. ⌜ (r ≡ putSequence (now (t .entry)) id s .answer) × (now (t .exit) ≡ putSequence (now (t .entry)) id s .table) ⌝ }
 {
-    put_sequence_in(&mut t.sequences, id, s)
+    put_sequence_in(&mut t.sequences, &mut t.pictures, id, s)
 }
 
 pub fn put_picture(t: &mut Table, id: u32, p: Picture) -> Changed
     ensures { λ r. ⌜ (r ≡ putPicture (now (t .entry)) id p .answer) × (now (t .exit) ≡ putPicture (now (t .entry)) id p .table) ⌝ }
 {
-    put_picture_in(&mut t.pictures, id, p)
+    put_picture_in(&t.sequences, &mut t.pictures, id, p)
 }
 
 // By value, above the lent forms: whoever calls these needs no walk of its own.

@@ -1,6 +1,6 @@
 // The words of an entry: looking up and putting, on the table's arrays. The first word has the set's flags as binary digits behind a one, the entry's mark; the
 // other fields follow in order, the signed ones with their least value taken off (init QP plus 62, init QS plus 26). Flags in one word make an entry short: a
-// look-up is bound by its loads.
+// look-up is bound by its loads. A picture set's last word is its change cycle's width, which a put works out, so that no header has to.
 use crate::sets::Picture;
 use crate::sets::Sequence;
 use crate::sets::both;
@@ -10,13 +10,14 @@ use crate::sets::within;
 use bits::refusals::Refusal;
 use bits::refusals::TABLE_FIELD;
 use bits::refusals::refuse;
+use bits::width::change_cycle_width;
 ghost use mathlib.Core.Path.{_≡_};
 ghost use mathlib.Core.Bool.{true};
 ghost use Prim.Native.Nat.{_≤_};
 ghost use lib.IntN.{pos, negℤ, natAbs, _+ℤ_, _-ℤ_};
 ghost use Rattle.table.specs.Sets.{betweenZ};
 ghost use Rattle.bits.specs.Refusals.{pick};
-ghost use Rattle.table.specs.Tables.{sequenceMarks, pictureMarks, sequenceIn, pictureIn, sequencePut, picturePut};
+ghost use Rattle.table.specs.Tables.{sequenceMarks, pictureMarks, cycleWidth, sequenceIn, pictureIn, sequencePut, renewedBy, renewed, widthsAfter, picturePut};
 
 // What a look-up finds.
 pub enum FoundSequence {
@@ -24,8 +25,9 @@ pub enum FoundSequence {
     Absent,
 }
 
+// With a picture set stands its change cycle's width.
 pub enum FoundPicture {
-    There(Picture),
+    There(Picture, u32),
     Absent,
 }
 
@@ -111,13 +113,13 @@ pub fn sequence_in(t: &[u32; 224], id: u32) -> FoundSequence
     }
 }
 
-pub fn picture_in(t: &[u32; 2048], id: u32) -> FoundPicture
+pub fn picture_in(t: &[u32; 2304], id: u32) -> FoundPicture
     ensures { λ r. ⌜ r ≡ pictureIn (now (t .entry)) id ⌝ }
 {
     if 255 < id {
         return FoundPicture::Absent;
     }
-    let k = id * 8;
+    let k = id * 9;
     let i = k as usize;
     let marks = t[i];
     let seq_parameter_set_id = t[i + 1];
@@ -127,7 +129,11 @@ pub fn picture_in(t: &[u32; 2048], id: u32) -> FoundPicture
     let qp = t[i + 5];
     let qs = t[i + 6];
     let slice_group_change_rate = t[i + 7];
-    if !both(within(32, 63, marks), both(qp <= 87, qs <= 51)) {
+    let width = t[i + 8];
+    if !both(
+        within(32, 63, marks),
+        both(qp <= 87, both(qs <= 51, width <= 25)),
+    ) {
         return FoundPicture::Absent;
     }
     let p = Picture {
@@ -145,15 +151,58 @@ pub fn picture_in(t: &[u32; 2048], id: u32) -> FoundPicture
         slice_group_change_rate,
     };
     if picture_fits(p) {
-        FoundPicture::There(p)
+        FoundPicture::There(p, width)
     } else {
         FoundPicture::Absent
     }
 }
 
-// Puts a set at an id: the named entry holds it, each other one is as before. An id or a field out of range is 24, and nothing changes.
-pub fn put_sequence_in(t: &mut [u32; 224], id: u32, s: Sequence) -> Changed
-    ensures { λ r. ⌜ (r ≡ sequencePut (now (t .entry)) id s .answer) × (now (t .exit) ≡ sequencePut (now (t .entry)) id s .left) ⌝ }
+// How wide slice_group_change_cycle is for a picture set with this change rate, by what is found under its sequence set's id.
+fn cycle_width(found: FoundSequence, rate: u32) -> u32
+    ensures { λ r. ⌜ r ≡ cycleWidth found rate ⌝ }
+{
+    match found {
+        FoundSequence::There(s) => change_cycle_width(s.pic_size_in_map_units, rate),
+        FoundSequence::Absent => 0,
+    }
+}
+
+// The width of one entry, anew where it holds a set that names the sequence set.
+fn renew_entry(t: &mut [u32; 2304], id: u32, size: u32, j: u32)
+    ensures { λ _. ⌜ now (t .exit) ≡ renewedBy id size (now (t .entry)) j (pictureIn (now (t .entry)) j) ⌝ }
+{
+    let found = picture_in(t, j);
+    let FoundPicture::There(p, _) = found else {
+        return;
+    };
+    if p.seq_parameter_set_id != id {
+        return;
+    }
+    let width = change_cycle_width(size, p.slice_group_change_rate);
+    let k = j * 9 + 8;
+    t[k as usize] = width;
+}
+
+// Of every entry, one after the other.
+fn renew(t: &mut [u32; 2304], id: u32, size: u32)
+    ensures { λ _. ⌜ now (t .exit) ≡ renewed id size (now (t .entry)) 256 ⌝ }
+{
+    let mut j: u32 = 0;
+    while j < 256 {
+        renew_entry(t, id, size, j);
+        j += 1;
+    }
+}
+
+// Puts a set at an id: the named entry holds it, each other one is as before, and the picture sets that name the id have the widths that the new set gives them.
+// An id or a field out of range is 24, and nothing changes.
+pub fn put_sequence_in(
+    t: &mut [u32; 224],
+    pictures: &mut [u32; 2304],
+    id: u32,
+    s: Sequence,
+) -> Changed
+    ensures { λ r. ⌜ (r ≡ sequencePut (now (t .entry)) id s .answer) × ((now (t .exit) ≡ sequencePut (now (t .entry)) id s .left) × (now (pictures .exit) ≡ widthsAfter (now (pictures .entry)) id s)) ⌝ }
 {
     if 31 < id {
         return Changed::Refused(refuse(TABLE_FIELD, 0));
@@ -171,11 +220,13 @@ pub fn put_sequence_in(t: &mut [u32; 224], id: u32, s: Sequence) -> Changed
     t[i + 4] = s.pic_order_cnt_type;
     t[i + 5] = s.log2_max_pic_order_cnt_lsb_minus4;
     t[i + 6] = s.pic_size_in_map_units;
+    renew(pictures, id, s.pic_size_in_map_units);
     Changed::Done
 }
 
-pub fn put_picture_in(t: &mut [u32; 2048], id: u32, p: Picture) -> Changed
-    ensures { λ r. ⌜ (r ≡ picturePut (now (t .entry)) id p .answer) × (now (t .exit) ≡ picturePut (now (t .entry)) id p .left) ⌝ }
+// The same for a picture set, whose width goes by the sequence set that it names.
+pub fn put_picture_in(sequences: &[u32; 224], t: &mut [u32; 2304], id: u32, p: Picture) -> Changed
+    ensures { λ r. ⌜ (r ≡ picturePut (now (sequences .entry)) (now (t .entry)) id p .answer) × (now (t .exit) ≡ picturePut (now (sequences .entry)) (now (t .entry)) id p .left) ⌝ }
 {
     if 255 < id {
         return Changed::Refused(refuse(TABLE_FIELD, 0));
@@ -184,7 +235,9 @@ pub fn put_picture_in(t: &mut [u32; 2048], id: u32, p: Picture) -> Changed
         return Changed::Refused(refuse(TABLE_FIELD, 0));
     }
     let marks = picture_marks(p);
-    let k = id * 8; // eight words an entry
+    let found = sequence_in(sequences, p.seq_parameter_set_id);
+    let width = cycle_width(found, p.slice_group_change_rate);
+    let k = id * 9; // nine words an entry
     let i = k as usize;
     t[i] = marks;
     t[i + 1] = p.seq_parameter_set_id;
@@ -194,5 +247,6 @@ pub fn put_picture_in(t: &mut [u32; 2048], id: u32, p: Picture) -> Changed
     t[i + 5] = raised(p.pic_init_qp_minus26, 62);
     t[i + 6] = raised(p.pic_init_qs_minus26, 26);
     t[i + 7] = p.slice_group_change_rate;
+    t[i + 8] = width;
     Changed::Done
 }

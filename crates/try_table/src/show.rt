@@ -63,13 +63,24 @@ pub(crate) fn found_sequence(f: FoundSequence) {
 // A picture set that is found, beside the one that was put: its signed fields are told by whether they are the same.
 pub(crate) fn found_picture(f: FoundPicture, put: Picture) {
     match f {
-        FoundPicture::There(p) => {
+        FoundPicture::There(p, _) => {
             text(b" there ");
             number(p.seq_parameter_set_id);
             text(b":");
             number(p.slice_group_change_rate);
             same(p.pic_init_qp_minus26, put.pic_init_qp_minus26);
             same(p.pic_init_qs_minus26, put.pic_init_qs_minus26);
+        }
+        FoundPicture::Absent => text(b" absent"),
+    }
+}
+
+// The width that stands with a picture set.
+pub(crate) fn width(f: FoundPicture) {
+    match f {
+        FoundPicture::There(_, w) => {
+            text(b" ");
+            number(w);
         }
         FoundPicture::Absent => text(b" absent"),
     }

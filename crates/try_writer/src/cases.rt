@@ -112,7 +112,7 @@ fn changes(
 }
 
 // A record, written and read back. The place after it.
-fn case<'a>(sequences: &'a [u32; 224], pictures: &'a [u32; 2048], s: &[u8], from: usize) -> usize {
+fn case<'a>(sequences: &'a [u32; 224], pictures: &'a [u32; 2304], s: &[u8], from: usize) -> usize {
     let at = name_end(s, from);
     name(s, from, at);
     let first = number_at(s, at);
@@ -155,7 +155,7 @@ fn case<'a>(sequences: &'a [u32; 224], pictures: &'a [u32; 2048], s: &[u8], from
     next
 }
 
-fn each<'a>(sequences: &'a [u32; 224], pictures: &'a [u32; 2048], s: &[u8], from: usize, n: u32) {
+fn each<'a>(sequences: &'a [u32; 224], pictures: &'a [u32; 2304], s: &[u8], from: usize, n: u32) {
     let mut at = from;
     let mut i: u32 = 0;
     while i < n {

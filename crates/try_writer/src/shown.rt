@@ -100,7 +100,7 @@ fn told(answer: ShortAnswer, bits: usize, is_same: bool) {
 // The first n bytes read as a unit, and its record compared.
 fn read_part<'a>(
     sequences: &'a [u32; 224],
-    pictures: &'a [u32; 2048],
+    pictures: &'a [u32; 2304],
     u: &[u8],
     n: usize,
     numbers: &[u32; 57],
@@ -159,7 +159,7 @@ fn read_part<'a>(
 
 fn read_back<'a>(
     sequences: &'a [u32; 224],
-    pictures: &'a [u32; 2048],
+    pictures: &'a [u32; 2304],
     u: &[u8; 9216],
     n: usize,
     numbers: &[u32; 57],
@@ -190,7 +190,7 @@ fn read_back<'a>(
 // Nine set bits follow the header, and so something after the first bit.
 fn back<'a>(
     sequences: &'a [u32; 224],
-    pictures: &'a [u32; 2048],
+    pictures: &'a [u32; 2304],
     s: Start,
     numbers: &[u32; 57],
     signed: &[i32; 7],
@@ -224,7 +224,7 @@ fn back<'a>(
 // The first `room` bytes of the buffer are lent, or all of it.
 fn written<'a>(
     sequences: &'a [u32; 224],
-    pictures: &'a [u32; 2048],
+    pictures: &'a [u32; 2304],
     s: Start,
     numbers: &[u32; 57],
     signed: &[i32; 7],
@@ -271,7 +271,7 @@ fn written<'a>(
 // A record written into the first `room` bytes of a buffer that is filled with a5.
 pub(crate) fn line<'a>(
     sequences: &'a [u32; 224],
-    pictures: &'a [u32; 2048],
+    pictures: &'a [u32; 2304],
     s: Start,
     numbers: &[u32; 57],
     signed: &[i32; 7],

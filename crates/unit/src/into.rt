@@ -54,7 +54,7 @@ fn body_short(a: PrefixStep) -> ShortAnswer
 // The body of a slice, which goes to scratch.
 fn slice_into<'a>(
     sequences: &'a [u32; 224],
-    pictures: &'a [u32; 2048],
+    pictures: &'a [u32; 2304],
     unit: &[u8],
     scratch: &mut [u8],
     kind: UnitKind,
@@ -107,7 +107,7 @@ fn body_into(
 // A unit; of the words beside a refusal nothing is said.
 fn take<'a>(
     sequences: &'a [u32; 224],
-    pictures: &'a [u32; 2048],
+    pictures: &'a [u32; 2304],
     unit: &[u8],
     scratch: &mut [u8],
     numbers: &mut [u32; 57],
@@ -149,7 +149,7 @@ fn take<'a>(
 // zeros.
 pub fn read_unit_into<'a>(
     sequences: &'a [u32; 224],
-    pictures: &'a [u32; 2048],
+    pictures: &'a [u32; 2304],
     unit: &[u8],
     scratch: &mut [u8],
     numbers: &mut [u32; 57],

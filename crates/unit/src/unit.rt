@@ -13,7 +13,7 @@ ghost use Rattle.unit.specs.Unit.{unitRead};
 // speaks of no header and no list, so that what they hold is right for every answer.
 pub fn read_unit_in<'a>(
     sequences: &'a [u32; 224],
-    pictures: &'a [u32; 2048],
+    pictures: &'a [u32; 2304],
     unit: &[u8],
     scratch: &mut [u8],
 ) -> UnitRead

@@ -46,7 +46,7 @@ pub fn next_step(recording: &[u8], from: usize) -> Step
 // One step, by the sets in a table's two arrays. Scratch and words are left as `read_unit_into` leaves them; where the step comes to no unit, all are untouched.
 pub fn walk_into<'a>(
     sequences: &'a [u32; 224],
-    pictures: &'a [u32; 2048],
+    pictures: &'a [u32; 2304],
     recording: &[u8],
     from: usize,
     scratch: &mut [u8],

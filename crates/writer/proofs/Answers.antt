@@ -106,7 +106,7 @@ module _ (t : Table) (b : ℕ) (x : ExtensionGiven) (h : SliceHeader) (out : Lis
         (λ g. no-bits (ap (λ (o : HeaderOut). o .answer) (sym (out-none t k h out g) ∙ w)))
 
     of-sets : (k : UnitKind) → kindGiven b x ≡ KindGiven.Of k → (f : SetsFor) → afterSets true t k h out f ≡ Out → Wrote t b x h out n left
-    of-sets k q (SetsFor.There p s) w = of-bits k q w
+    of-sets k q (SetsFor.There p v s) w = of-bits k q w
     of-sets k q (SetsFor.Refused r) w = no-bits (ap (λ (o : HeaderOut). o .answer) w)
 
     of-kind : (f : KindGiven) → kindGiven b x ≡ f → afterKind true t h out f ≡ Out → Wrote t b x h out n left

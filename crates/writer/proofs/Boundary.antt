@@ -48,7 +48,7 @@ module _ (t : Table) (b : ℕ) (x : ExtensionGiven) (w : HeaderWords) (out : Lis
   written-plain {n} {left} e = cases (plain w) (λ p. p) (λ p. of-kind (kindGiven b x) (rw p at e))
     where
       of-sets : (k : UnitKind) (f : SetsFor) → afterSets false t k (headerFrom w) out f ≡ record { answer = HeaderWrote.Bits n; left = left } → plain w ≡ true
-      of-sets k (SetsFor.There p s) q = no-bits (ap (λ (o : HeaderOut). o .answer) q)
+      of-sets k (SetsFor.There p v s) q = no-bits (ap (λ (o : HeaderOut). o .answer) q)
       of-sets k (SetsFor.Refused r) q = no-bits (ap (λ (o : HeaderOut). o .answer) q)
 
       of-kind : (f : KindGiven) → afterKind false t (headerFrom w) out f ≡ record { answer = HeaderWrote.Bits n; left = left } → plain w ≡ true

@@ -26,7 +26,7 @@ use Rattle.table.specs.Tables.{pictureAt, sequenceAt}
 use Rattle.syntax.specs.declared.context.UnitKind.{UnitKind}
 use Rattle.syntax.specs.declared.context.Context.{Context}
 use Rattle.syntax.specs.declared.record.SliceHeader.{SliceHeader}
-use Rattle.syntax.specs.Context.{pictureFor, sequenceIdFor, sequenceFor, contextFor}
+use Rattle.syntax.specs.Context.{pictureFor, sequenceIdFor, sequenceFor, widthFor, contextFor}
 use Rattle.syntax.specs.SliceHeader.{pictureSetId, lead, ofHeader, header}
 use Rattle.syntax.proofs.Sizes.{then, sliceType-short}
 use Rattle.syntax.proofs.Sets.{Few, defaults-few}
@@ -45,50 +45,55 @@ use Rattle.writer.proofs.Copies.{copied-written}
 -- ---- by the table
 
 -- the sets that were found
-record Are (t : Table) (id : ℕ) (p : Picture) (s : Sequence) : Type 0 where
+record Are (t : Table) (id : ℕ) (p : Picture) (v : ℕ) (s : Sequence) : Type 0 where
   low : leb id 255 ≡ true
-  picture : pictureAt t id ≡ FoundPicture.There p
+  picture : pictureAt t id ≡ FoundPicture.There p v
   sequence : sequenceAt t (p .«seq_parameter_set_id») ≡ FoundSequence.There s
 
-module _ (t : Table) (id : ℕ) (p : Picture) (s : Sequence) where
-  with-sequence : leb id 255 ≡ true → (q : Picture) → pictureAt t id ≡ FoundPicture.There q → (f : FoundSequence) → sequenceAt t (q .«seq_parameter_set_id») ≡ f
-      → withSequence q f ≡ SetsFor.There p s → Are t id p s
-  with-sequence l q k (FoundSequence.There r) g e =
+module _ (t : Table) (id : ℕ) (p : Picture) (v : ℕ) (s : Sequence) where
+  with-sequence : leb id 255 ≡ true → (q : Picture) (u : ℕ) → pictureAt t id ≡ FoundPicture.There q u → (f : FoundSequence) → sequenceAt t (q .«seq_parameter_set_id») ≡ f
+      → withSequence q u f ≡ SetsFor.There p v s → Are t id p v s
+  with-sequence l q u k (FoundSequence.There r) g e =
       let i : q ≡ p = (cc e) in
+      let m : u ≡ v = (cc e) in
       let j : r ≡ s = (cc e) in
-      record { low = l; picture = k ∙ ap FoundPicture.There i; sequence = ap (λ (x : Picture). sequenceAt t (x .«seq_parameter_set_id»)) (sym i) ∙ g ∙ ap FoundSequence.There j }
-  with-sequence l q k FoundSequence.Absent g e = absurd (let z : _≡_ {A = ℕ} 0 1 = (cc e) in omega arith)
+      record { low = l; picture = k ∙ (λ y. FoundPicture.There (i y) (m y)); sequence = ap (λ (x : Picture). sequenceAt t (x .«seq_parameter_set_id»)) (sym i) ∙ g ∙ ap FoundSequence.There j }
+  with-sequence l q u k FoundSequence.Absent g e = absurd (let z : _≡_ {A = ℕ} 0 1 = (cc e) in omega arith)
 
-  with-picture : leb id 255 ≡ true → (f : FoundPicture) → pictureAt t id ≡ f → withPicture t id f ≡ SetsFor.There p s → Are t id p s
-  with-picture l (FoundPicture.There q) k e = with-sequence l q k (sequenceAt t (q .«seq_parameter_set_id»)) refl e
+  with-picture : leb id 255 ≡ true → (f : FoundPicture) → pictureAt t id ≡ f → withPicture t id f ≡ SetsFor.There p v s → Are t id p v s
+  with-picture l (FoundPicture.There q u) k e = with-sequence l q u k (sequenceAt t (q .«seq_parameter_set_id»)) refl e
   with-picture l FoundPicture.Absent k e = absurd (let z : _≡_ {A = ℕ} 0 1 = (cc e) in omega arith)
 
-  sets-are : setsFor t id ≡ SetsFor.There p s → Are t id p s
+  sets-are : setsFor t id ≡ SetsFor.There p v s → Are t id p v s
   unfolding setsFor
   sets-are e =
       cases (leb id 255)
       (λ l. with-picture l (pictureAt t id) refl (rw l at e))
       (λ l. let w = rw l at e in absurd (let z : _≡_ {A = ℕ} 0 1 = (cc w) in omega arith))
 
-  module _ (a : Are t id p s) where
+  module _ (a : Are t id p v s) where
     sequence-is : sequenceFor t id ≡ s
     unfolding sequenceFor
     sequence-is = rw (sequence-id t id (a .picture), a .sequence)
 
-    context-is : (n : UnitKind) → contextFor t n id ≡ record { kind = n; picture = p; sequence = s }
+    width-is : widthFor t id ≡ v
+    unfolding widthFor
+    width-is = rw (a .picture)
+
+    context-is : (n : UnitKind) → contextFor t n id ≡ record { kind = n; picture = p; sequence = s; «cycle_width» = v }
     unfolding contextFor
-    context-is n = λ i. record { kind = n; picture = picture-is t id (a .picture) i; sequence = sequence-is i }
+    context-is n = λ i. record { kind = n; picture = picture-is t id (a .picture) i; sequence = sequence-is i; «cycle_width» = width-is i }
 
     id-good : pictureSetId t .good id ≡ ue .good id
     unfolding pictureSetId test
     id-good = rw (sequence-id t id (a .picture), a .sequence, a .picture, a .low)
 
 -- its counts of references are those of a set within the ranges
-pub known-few : (t : Table) (id : ℕ) (p : Picture) (s : Sequence) → setsFor t id ≡ SetsFor.There p s → Few p
-known-few t id p s e = subst Few (picture-is t id (sets-are t id p s e .picture)) (defaults-few t id)
+pub known-few : (t : Table) (id : ℕ) (p : Picture) (v : ℕ) (s : Sequence) → setsFor t id ≡ SetsFor.There p v s → Few p
+known-few t id p v s e = subst Few (picture-is t id (sets-are t id p v s e .picture)) (defaults-few t id)
 
-module _ (t : Table) (n : UnitKind) (w : HeaderWords) (out : List ℕ) (p : Picture) (s : Sequence)
-    (e : setsFor t (headerFrom w .«pic_parameter_set_id») ≡ SetsFor.There p s) where
+module _ (t : Table) (n : UnitKind) (w : HeaderWords) (out : List ℕ) (p : Picture) (v : ℕ) (s : Sequence)
+    (e : setsFor t (headerFrom w .«pic_parameter_set_id») ≡ SetsFor.There p v s) where
   abbrev h : SliceHeader
   h = headerFrom w
 
@@ -96,17 +101,17 @@ module _ (t : Table) (n : UnitKind) (w : HeaderWords) (out : List ℕ) (p : Pict
   id = h .«pic_parameter_set_id»
 
   abbrev x : Context
-  x = record { kind = n; picture = p; sequence = s }
+  x = record { kind = n; picture = p; sequence = s; «cycle_width» = v }
 
   good-known : header t n .good h ≡ isKnown x h
   unfolding header shaped seq lead
   good-known =
-      let a = sets-are t id p s e in
-      rw (sequence-id t id (a .picture), id-good t id p s a, context-is t id p s a n)
+      let a = sets-are t id p v s e in
+      rw (sequence-id t id (a .picture), id-good t id p v s a, context-is t id p v s a n)
 
   bits-known : header t n .bits h ≡ fields x .bits (ofHeader h)
   unfolding header shaped seq lead pictureSetId test
-  bits-known = rw (context-is t id p s (sets-are t id p s e) n)
+  bits-known = rw (context-is t id p v s (sets-are t id p v s e) n)
 
   pub known-out : knownOut x w out ≡ bitsOut (plain w) t n h out
   unfolding knownOut bitsOut

@@ -24,30 +24,31 @@ use Rattle.writer.specs.Write.{withPicture, setsFor}
 -- the sets that an id names are in the table
 pub record Found (t : Table) (id : ℕ) : Type 0 where
   pub picture : Picture
+  pub width : ℕ
   pub sequence : Sequence
-  pub are : setsFor t id ≡ SetsFor.There picture sequence
+  pub are : setsFor t id ≡ SetsFor.There picture width sequence
 
 in-test : {A : Type 0} (ok : A → Bool) (n : ℕ) (value : A → ℤ) (F : Fmt A) (a : A) → T (test ok n value F .good a) → T (F .good a)
 unfolding test
 in-test ok n value F a = both-1 (ok a) (F .good a)
 
 module _ (t : Table) (id : ℕ) where
-  with-sequence : (p : Picture) (f : FoundSequence) → T (leb id 255) → pictureAt t id ≡ FoundPicture.There p → sequenceAt t (p .«seq_parameter_set_id») ≡ f
+  with-sequence : (p : Picture) (w : ℕ) (f : FoundSequence) → T (leb id 255) → pictureAt t id ≡ FoundPicture.There p w → sequenceAt t (p .«seq_parameter_set_id») ≡ f
       → T (isThereToo f) → Found t id
   unfolding setsFor
-  with-sequence p (FoundSequence.There s) l k g i = record { picture = p; sequence = s; are = rw (T-true (leb id 255) l, k, g) }
-  with-sequence p FoundSequence.Absent l k g i = absurd i
+  with-sequence p w (FoundSequence.There s) l k g i = record { picture = p; width = w; sequence = s; are = rw (T-true (leb id 255) l, k, g) }
+  with-sequence p w FoundSequence.Absent l k g i = absurd i
 
-  pub picture-is : {p : Picture} → pictureAt t id ≡ FoundPicture.There p → pictureFor t id ≡ p
+  pub picture-is : {p : Picture} {w : ℕ} → pictureAt t id ≡ FoundPicture.There p w → pictureFor t id ≡ p
   unfolding pictureFor
   picture-is k = rw k
 
-  pub sequence-id : {p : Picture} → pictureAt t id ≡ FoundPicture.There p → sequenceIdFor t id ≡ p .«seq_parameter_set_id»
+  pub sequence-id : {p : Picture} {w : ℕ} → pictureAt t id ≡ FoundPicture.There p w → sequenceIdFor t id ≡ p .«seq_parameter_set_id»
   unfolding sequenceIdFor
   sequence-id k = ap (λ (x : Picture). x .«seq_parameter_set_id») (picture-is k)
 
   with-picture : (f : FoundPicture) → T (leb id 255) → pictureAt t id ≡ f → T (isThere f) → T (isThereToo (sequenceAt t (sequenceIdFor t id))) → Found t id
-  with-picture (FoundPicture.There p) l k i j = with-sequence p (sequenceAt t (p .«seq_parameter_set_id»)) l k refl (rw (sequence-id k) at j)
+  with-picture (FoundPicture.There p w) l k i j = with-sequence p w (sequenceAt t (p .«seq_parameter_set_id»)) l k refl (rw (sequence-id k) at j)
   with-picture FoundPicture.Absent l k i j = absurd i
 
   pub id-found : T (pictureSetId t .good id) → Found t id

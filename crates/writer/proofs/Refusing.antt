@@ -70,15 +70,15 @@ kind-fine b x = cases (eqb (forbiddenZeroBitOf b) 0) (λ i. rw i (typed-fine (by
 -- ---- the checks on the sets: 8, 9, 10
 
 abbrev SetsFine : SetsFor → Type 0
-SetsFine (SetsFor.There p s) = Unit {0}
+SetsFine (SetsFor.There p w s) = Unit {0}
 SetsFine (SetsFor.Refused r) = T (among (8 ∷ 9 ∷ 10 ∷ []) (r .number)) × (r .«has_bit» ≡ false)
 
-sequence-fine : (p : Picture) (f : FoundSequence) → SetsFine (withSequence p f)
-sequence-fine p (FoundSequence.There s) = tt
-sequence-fine p FoundSequence.Absent = (tt, refl)
+sequence-fine : (p : Picture) (w : ℕ) (f : FoundSequence) → SetsFine (withSequence p w f)
+sequence-fine p w (FoundSequence.There s) = tt
+sequence-fine p w FoundSequence.Absent = (tt, refl)
 
 picture-fine : (t : Table) (id : ℕ) (f : FoundPicture) → SetsFine (withPicture t id f)
-picture-fine t id (FoundPicture.There p) = sequence-fine p (sequenceAt t (p .«seq_parameter_set_id»))
+picture-fine t id (FoundPicture.There p w) = sequence-fine p w (sequenceAt t (p .«seq_parameter_set_id»))
 picture-fine t id FoundPicture.Absent = (tt, refl)
 
 sets-fine : (t : Table) (id : ℕ) → SetsFine (setsFor t id)
@@ -129,7 +129,7 @@ module _ (t : Table) (h : SliceHeader) (out : List ℕ) where
       (λ g. rw (out-none t k h out g) (refl, (tt, refl)))
 
   by-sets : (k : UnitKind) (f : SetsFor) → SetsFine f → OutFine (afterSets true t k h out f)
-  by-sets k (SetsFor.There p s) g = bits-fine k
+  by-sets k (SetsFor.There p w s) g = bits-fine k
   by-sets k (SetsFor.Refused r) g = (refl, (among-right (2 ∷ 3 ∷ 4 ∷ 13 ∷ []) (8 ∷ 9 ∷ 10 ∷ 25 ∷ 26 ∷ []) (r .number) (among-left (8 ∷ 9 ∷ 10 ∷ []) (25 ∷ 26 ∷ []) (r .number) (g .0)), g .1))
 
   by-kind : (f : KindGiven) → KindFine f → OutFine (afterKind true t h out f)
@@ -255,7 +255,7 @@ module _ (t : Table) (b : ℕ) (x : ExtensionGiven) (h : SliceHeader) (out : Lis
   none-reads w v scratch e a r = kind (kindGiven b x) refl (kind-fine b x)
     where
       sets : {k : UnitKind} → kindGiven b x ≡ KindGiven.Of k → (f : SetsFor) → setsFor t (h .«pic_parameter_set_id») ≡ f → SetsFine f → ⊥
-      sets q (SetsFor.There p z) g i = refused-no-unit t b x h out q (record { picture = p; sequence = z; are = g }) w (unitOf b x v) v scratch e (told-starts b x q v) a r
+      sets q (SetsFor.There p y z) g i = refused-no-unit t b x h out q (record { picture = p; width = y; sequence = z; are = g }) w (unitOf b x v) v scratch e (told-starts b x q v) a r
       sets q (SetsFor.Refused d) g i = other (sym (by-the-sets q g) ∙ w) (8 ∷ 9 ∷ 10 ∷ []) (i .0) refl
 
       kind : (f : KindGiven) → kindGiven b x ≡ f → KindFine f → ⊥
@@ -267,8 +267,8 @@ module _ (t : Table) (b : ℕ) (x : ExtensionGiven) (h : SliceHeader) (out : Lis
   unread-turned n = kind (kindGiven b x) refl (kind-fine b x)
     where
       sets : {k : UnitKind} → kindGiven b x ≡ KindGiven.Of k → (f : SetsFor) → setsFor t (h .«pic_parameter_set_id») ≡ f → SetsFine f → Turned (writeHeader t b x h out .answer)
-      sets {k} q (SetsFor.There p z) g i =
-          let f : Found t (h .«pic_parameter_set_id») = record { picture = p; sequence = z; are = g } in
+      sets {k} q (SetsFor.There p y z) g i =
+          let f : Found t (h .«pic_parameter_set_id») = record { picture = p; width = y; sequence = z; are = g } in
           record { why = refusal noBits (pos 0); is = ap (λ (o : HeaderOut). o .answer) (unread-refused t b x h out q f (n k)); number = tt }
       sets q (SetsFor.Refused d) g i =
           record {

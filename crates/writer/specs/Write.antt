@@ -27,19 +27,19 @@ use Rattle.writer.specs.Given.{kindGiven}
 
 -- ---- 8, 9 and 10, with the values that reading has
 
-abbrev pub withSequence : Picture → FoundSequence → SetsFor
-withSequence p (FoundSequence.There s) = SetsFor.There p s
-withSequence p FoundSequence.Absent = SetsFor.Refused (refusal 10 (pos (p .«seq_parameter_set_id»)))
+abbrev pub withSequence : Picture → ℕ → FoundSequence → SetsFor
+withSequence p w (FoundSequence.There s) = SetsFor.There p w s
+withSequence p w FoundSequence.Absent = SetsFor.Refused (refusal 10 (pos (p .«seq_parameter_set_id»)))
 
 abbrev pub withPicture : Table → ℕ → FoundPicture → SetsFor
-withPicture t id (FoundPicture.There p) = withSequence p (sequenceAt t (p .«seq_parameter_set_id»))
+withPicture t id (FoundPicture.There p w) = withSequence p w (sequenceAt t (p .«seq_parameter_set_id»))
 withPicture t id FoundPicture.Absent = SetsFor.Refused (refusal 9 (pos id))
 
 unfoldable pub setsFor : Table → ℕ → SetsFor
 setsFor t id = pick (leb id 255) (withPicture t id (pictureAt t id)) (SetsFor.Refused (refusal 8 (pos id)))
 
 abbrev pub whySets : SetsFor → Refusal
-whySets (SetsFor.There p s) = none
+whySets (SetsFor.There p w s) = none
 whySets (SetsFor.Refused r) = r
 
 -- ---- the header
@@ -66,7 +66,7 @@ unfoldable pub bitsOut : Bool → Table → UnitKind → SliceHeader → List �
 bitsOut ok t n h out = outOf (written (ok && header t n .good h) (header t n .bits h) out 0)
 
 abbrev pub afterSets : Bool → Table → UnitKind → SliceHeader → List ℕ → SetsFor → HeaderOut
-afterSets ok t n h out (SetsFor.There p s) = bitsOut ok t n h out
+afterSets ok t n h out (SetsFor.There p w s) = bitsOut ok t n h out
 afterSets ok t n h out (SetsFor.Refused r) = untouched r out
 
 abbrev pub afterKind : Bool → Table → SliceHeader → List ℕ → KindGiven → HeaderOut

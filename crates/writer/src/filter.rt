@@ -6,7 +6,6 @@ use bits::read::Cursor;
 use bits::refusals::ALPHA_OFFSET;
 use bits::refusals::BETA_OFFSET;
 use bits::refusals::DEBLOCKING_IDC;
-use bits::width::change_cycle_width;
 use fields::conditions::both;
 use syntax::context::Context;
 use syntax::record::Filter;
@@ -23,6 +22,5 @@ pub(crate) fn put_filter(d: &mut [u8], c: Cursor, x: Context, f: Filter) -> Curs
     let c2 = put_offset_if(d, c1, offsets, f.slice_alpha_c0_offset_div2, ALPHA_OFFSET);
     let c3 = put_offset_if(d, c2, offsets, f.slice_beta_offset_div2, BETA_OFFSET);
     let rate = x.picture.slice_group_change_rate;
-    let width = change_cycle_width(x.sequence.pic_size_in_map_units, rate);
-    put_bits_if(d, c3, 0 < rate, f.slice_group_change_cycle, width)
+    put_bits_if(d, c3, 0 < rate, f.slice_group_change_cycle, x.cycle_width)
 }

@@ -15,8 +15,9 @@ ghost use mathlib.Core.Path.{_≡_};
 ghost use Rattle.header.specs.Lead.{tableOf};
 ghost use Rattle.writer.specs.Write.{whySets, setsFor};
 
+// The picture set with its change cycle's width, and the sequence set.
 pub(crate) enum SetsFor {
-    There(Picture, Sequence),
+    There(Picture, u32, Sequence),
     Refused(Refusal),
 }
 
@@ -25,25 +26,25 @@ pub(crate) fn why_sets(a: SetsFor) -> Refusal
     ensures { λ r. ⌜ r ≡ whySets a ⌝ }
 {
     match a {
-        SetsFor::There(_, _) => no_refusal(),
+        SetsFor::There(_, _, _) => no_refusal(),
         SetsFor::Refused(r) => r,
     }
 }
 
 // The checks 8, 9 and 10, by the table whose arrays are lent.
-pub(crate) fn sets_for<'a>(sequences: &'a [u32; 224], pictures: &'a [u32; 2048], id: u32) -> SetsFor
+pub(crate) fn sets_for<'a>(sequences: &'a [u32; 224], pictures: &'a [u32; 2304], id: u32) -> SetsFor
     ensures { λ r. ⌜ r ≡ setsFor (tableOf (now (sequences .entry)) (now (pictures .entry))) id ⌝ }
 {
     if 255 < id {
         return SetsFor::Refused(refuse(PICTURE_SET_ID, id as i64));
     }
     let a1 = picture_in(pictures, id);
-    let FoundPicture::There(picture) = a1 else {
+    let FoundPicture::There(picture, cycle_width) = a1 else {
         return SetsFor::Refused(refuse(NO_PICTURE_SET, id as i64));
     };
     let a2 = sequence_in(sequences, picture.seq_parameter_set_id);
     let FoundSequence::There(sequence) = a2 else {
         return SetsFor::Refused(refuse(NO_SEQUENCE_SET, picture.seq_parameter_set_id as i64));
     };
-    SetsFor::There(picture, sequence)
+    SetsFor::There(picture, cycle_width, sequence)
 }

@@ -124,7 +124,7 @@ fn write_known(
 // buffer as it was. Words behind a list's count are not looked at.
 pub fn write_words_in<'a>(
     sequences: &'a [u32; 224],
-    pictures: &'a [u32; 2048],
+    pictures: &'a [u32; 2304],
     first: u8,
     extension: ExtensionGiven,
     numbers: &[u32; 57],
@@ -143,13 +143,14 @@ pub fn write_words_in<'a>(
         return HeaderWrote::Refused(why_kind(a1));
     };
     let a2 = sets_for(sequences, pictures, numbers[2]);
-    let SetsFor::There(picture, sequence) = a2 else {
+    let SetsFor::There(picture, cycle_width, sequence) = a2 else {
         return HeaderWrote::Refused(why_sets(a2));
     };
     let x = Context {
         kind,
         picture,
         sequence,
+        cycle_width,
     };
     write_known(x, numbers, signed, l0, l1, marking, w0, w1, out)
 }

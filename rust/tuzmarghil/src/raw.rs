@@ -17,11 +17,11 @@ extern "C" {
     fn tuz_nal_header(first: u8) -> NalHeaderOut;
     fn tuz_unit_type(id: u8) -> u32;
     fn tuz_extension(out: *mut ExtensionOut, b1: u8, b2: u8, b3: u8);
-    fn tuz_final_qp(pictures: *const [u32; 2048], id: u32, delta: i32) -> i64;
-    fn tuz_final_qs(pictures: *const [u32; 2048], id: u32, delta: i32) -> i64;
+    fn tuz_final_qp(pictures: *const [u32; 2304], id: u32, delta: i32) -> i64;
+    fn tuz_final_qs(pictures: *const [u32; 2304], id: u32, delta: i32) -> i64;
     fn tuz_unit_line(
         line: *mut Line,
-        pictures: *const [u32; 2048],
+        pictures: *const [u32; 2304],
         place: usize,
         length: usize,
         unit: *const u8,
@@ -42,7 +42,7 @@ extern "C" {
     fn tuz_read_unit(
         out: *mut ReadOut,
         sequences: *const [u32; 224],
-        pictures: *const [u32; 2048],
+        pictures: *const [u32; 2304],
         unit: *const u8,
         unit_len: usize,
         scratch: *mut u8,
@@ -59,7 +59,7 @@ extern "C" {
     fn tuz_walk(
         out: *mut WalkOut,
         sequences: *const [u32; 224],
-        pictures: *const [u32; 2048],
+        pictures: *const [u32; 2304],
         recording: *const u8,
         recording_len: usize,
         from: usize,
@@ -78,7 +78,7 @@ extern "C" {
     fn tuz_write_header(
         out: *mut WroteOut,
         sequences: *const [u32; 224],
-        pictures: *const [u32; 2048],
+        pictures: *const [u32; 2304],
         first: u8,
         extension: ExtensionGiven,
         numbers: *const NumberWords,

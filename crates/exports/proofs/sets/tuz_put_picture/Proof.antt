@@ -1,8 +1,7 @@
--- `exports::sets::tuz_put_picture` meets its contract: it is the shell that lends the pictures to `put_picture_out`.
+-- `exports::sets::tuz_put_picture` meets its contract: it is the shell that lends the pictures, and the sequences beside them, to `put_picture_out`.
 use Rattle.table.proofs.Walking.{_≡_, refl, tripleOf, entered, cited, givenOf, tables, tablesOf}
-use Rattle.table.proofs.Fields.{pictures-field}
 use Rattle.table.proofs.Values.{Value, of-struct, picture}
-use Rattle.table.proofs.PutShell.{puts-meets}
+use Rattle.table.proofs.BesideShell.{beside-meets}
 use Rattle.table.specs.Tables.{picturePut, putPicture}
 use Rattle.exports.specs.Sets.{changedOut}
 use Rattle.exports.proofs.sets.ChangedOut as N
@@ -23,7 +22,7 @@ unfolding code.routine tablesOf
 tuz-put-picture-spec 𝓤 H 𝓜 𝓖 𝓡 =
     entered 𝓤 H (tripleOf 𝓤 H (𝓖 .A) f.signature (f.spec 𝓤 H (𝓖 .A) (𝓜 .mem) (𝓡 .run)))
     (tables 𝓤 H 𝓜 𝓡 code.env .C) (tables 𝓤 H 𝓜 𝓡 code.env .Λ) key.name code.function (code.unfolded 𝓤 H 𝓜 𝓡)
-    (puts-meets pictures-field picture seen g-def.name (λ xs n s r. r ≡ changedOut (picturePut xs n s .answer)) (λ xs n s. picturePut xs n s .left)
+    (beside-meets picture seen g-def.name (λ xs ys n s r. r ≡ changedOut (picturePut xs ys n s .answer)) (λ xs ys n s. picturePut xs ys n s .left)
     (λ h n s r z. (r ≡ changedOut (putPicture h n s .answer)) × (z ≡ putPicture h n s .table)) (λ h n s r e. (e, refl))
     𝓤 H (𝓖 .A) (givenOf 𝓤 H 𝓜 𝓖) (tablesOf 𝓤 H 𝓜 (tables 𝓤 H 𝓜 𝓡 code.env))
     (cited 𝓤 H (tripleOf 𝓤 H (𝓖 .A) g.signature (g.spec 𝓤 H (𝓖 .A) (𝓜 .mem) (𝓡 .run))) 𝓜 𝓡 code.env g-def.name g-def.routine code.calls-exports·sets·put-picture-out (g-thm.met 𝓤 H 𝓜 𝓖 𝓡)))

@@ -8,7 +8,7 @@ use Rattle.fmt.specs.Fmt.{seq}
 use Rattle.fmt.specs.Leaves.{ue}
 use Rattle.syntax.specs.SliceHeader.{lead, sliceType}
 use Rattle.header.specs.Lead.{tableOf}
-use Rattle.header.proofs.Sets.{id-refused, no-picture, no-sequence, sets-there, picture-is, sequence-is}
+use Rattle.header.proofs.Sets.{id-refused, no-picture, no-sequence, sets-there, picture-is, width-is, sequence-is}
 use borrow.Author.Needs.{needs}
 use Rattle.header.proofs.lead.lead.Statement.{statement}
 use Rattle.header.proofs.lead.lead.Tie as tie
@@ -157,7 +157,7 @@ returns-6 c =
     let h = sym (t3 .tested2 .ensures) ∙ ap asRead (g3 .a3 .given .1) in
     let k = sym (t4 .picture-in .ensures) ∙ g4 .a4 .given .1 in
     let g = sym (t5 .sequence-in .ensures) ∙ g5 .a5 .given .1 in
-    rw (← t1 .ue .ensures, g1 .a1 .given .1, ← t2 .tested .ensures, g2 .a2 .given .1, sets-there x _ _ h k g, picture-is x _ _ h k, sequence-is x _ _ h k g)
+    rw (← t1 .ue .ensures, g1 .a1 .given .1, ← t2 .tested .ensures, g2 .a2 .given .1, sets-there x _ _ h k g, picture-is x _ _ h k, sequence-is x _ _ h k g, width-is x _ _ h k)
 
 pub lead-spec : {M : Type 1} → statement M
 lead-spec =

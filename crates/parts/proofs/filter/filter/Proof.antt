@@ -55,9 +55,6 @@ returns-3 : tie.Need-returns-3
 unfolding filter seq shaped
 returns-3 c = rw (c .why-signed2 .ensures, ← c .before .before .before .before .before .before .before .before .before .before .before .before .before .tested-if .ensures, c .before .before .before .before .before .before .before .before .before .before .before .a1 .given .1, ← c .before .before .before .before .before .before .before .before .both .ensures, ← c .before .before .before .before .before .before .before .offset-if .ensures, c .before .before .before .before .before .a2 .given .1, ← c .before .before .before .offset-if2 .ensures, c .before .enum-told3 .given .1)
 
-change-cycle-width-requires : tie.Need-change-cycle-width-requires
-change-cycle-width-requires c κs = search needs
-
 bits-if-requires : tie.Need-bits-if-requires
 bits-if-requires c κs = search needs
 
@@ -72,11 +69,11 @@ why-number-requires-2 c κs = search needs
 
 returns-4 : tie.Need-returns-4
 unfolding filter seq shaped
-returns-4 c = rw (c .why-number2 .ensures, ← c .before .before .before .before .before .before .before .before .before .before .before .before .before .before .before .before .before .before .tested-if .ensures, c .before .before .before .before .before .before .before .before .before .before .before .before .before .before .before .before .a1 .given .1, ← c .before .before .before .before .before .before .before .before .before .before .before .before .before .both .ensures, ← c .before .before .before .before .before .before .before .before .before .before .before .before .offset-if .ensures, c .before .before .before .before .before .before .before .before .before .before .a2 .given .1, ← c .before .before .before .before .before .before .before .before .offset-if2 .ensures, c .before .before .before .before .before .before .a3 .given .1, ← c .before .before .before .before .change-cycle-width .ensures, ← c .before .before .before .bits-if .ensures, c .before .enum-told4 .given .1)
+returns-4 c = rw (c .why-number2 .ensures, ← c .before .before .before .before .before .before .before .before .before .before .before .before .before .before .before .before .before .tested-if .ensures, c .before .before .before .before .before .before .before .before .before .before .before .before .before .before .before .a1 .given .1, ← c .before .before .before .before .before .before .before .before .before .before .before .before .both .ensures, ← c .before .before .before .before .before .before .before .before .before .before .before .offset-if .ensures, c .before .before .before .before .before .before .before .before .before .a2 .given .1, ← c .before .before .before .before .before .before .before .offset-if2 .ensures, c .before .before .before .before .before .a3 .given .1, ← c .before .before .before .bits-if .ensures, c .before .enum-told4 .given .1)
 
 returns-5 : tie.Need-returns-5
 unfolding filter seq shaped
-returns-5 c = rw (← c .before .before .before .before .before .before .before .before .before .before .before .before .before .before .before .before .before .before .tested-if .ensures, c .before .before .before .before .before .before .before .before .before .before .before .before .before .before .before .before .a1 .given .1, ← c .before .before .before .before .before .before .before .before .before .before .before .before .before .both .ensures, ← c .before .before .before .before .before .before .before .before .before .before .before .before .offset-if .ensures, c .before .before .before .before .before .before .before .before .before .before .a2 .given .1, ← c .before .before .before .before .before .before .before .before .offset-if2 .ensures, c .before .before .before .before .before .before .a3 .given .1, ← c .before .before .before .before .change-cycle-width .ensures, ← c .before .before .before .bits-if .ensures, c .before .a4 .given .1)
+returns-5 c = rw (← c .before .before .before .before .before .before .before .before .before .before .before .before .before .before .before .before .before .tested-if .ensures, c .before .before .before .before .before .before .before .before .before .before .before .before .before .before .before .a1 .given .1, ← c .before .before .before .before .before .before .before .before .before .before .before .before .both .ensures, ← c .before .before .before .before .before .before .before .before .before .before .before .offset-if .ensures, c .before .before .before .before .before .before .before .before .before .a2 .given .1, ← c .before .before .before .before .before .before .before .offset-if2 .ensures, c .before .before .before .before .before .a3 .given .1, ← c .before .before .before .bits-if .ensures, c .before .a4 .given .1)
 
 pub filter-spec : {M : Type 1} → statement M
 filter-spec =
@@ -98,7 +95,6 @@ filter-spec =
     enum-told-3
     why-signed-requires-2
     returns-3
-    change-cycle-width-requires
     bits-if-requires
     enum-known-a4
     enum-told-4

@@ -7,8 +7,9 @@ use mir.Facts.{toZ-ofZ}
 use mir.Syntax.{w32}
 use mir.Val.{SFits, toZ, ofZ}
 use Rattle.table.specs.Sets.{pictureFits}
+use Rattle.table.specs.declared.sets.Picture.{Picture}
 use Rattle.table.specs.declared.words.FoundPicture.{FoundPicture}
-use Rattle.table.specs.Tables.{pictureOf}
+use Rattle.table.specs.Tables.{widthIn, pictureOf}
 use Rattle.table.proofs.Tests.{refuted, held}
 use Rattle.table.proofs.Looking.{entryAt, madePicture, made, picture-past, picture-none, picture-there, plausible, picture-unmade, picture-made}
 use borrow.Author.Needs.{needs}
@@ -95,6 +96,15 @@ mul-slice-group-change-rate c = search needs
 element-copy-out-slice-group-change-rate : tie.Need-element-copy-out-slice-group-change-rate
 element-copy-out-slice-group-change-rate c = search needs
 
+add-width : tie.Need-add-width
+add-width c = search needs
+
+mul-width : tie.Need-mul-width
+mul-width c = search needs
+
+element-copy-out-width : tie.Need-element-copy-out-width
+element-copy-out-width c = search needs
+
 within-requires : tie.Need-within-requires
 within-requires c κs = search needs
 
@@ -104,39 +114,42 @@ both-requires c κs = search needs
 both-requires-2 : tie.Need-both-requires-2
 both-requires-2 c κs = search needs
 
+both-requires-3 : tie.Need-both-requires-3
+both-requires-3 c κs = search needs
+
 -- the tests that stand first, on the entry's words
-told : (c : tie.After-both2) → c .both2 .result ≡ plausible (entryAt (c .before .before .before .before .before .before .before .before .before .before .before .before .args .t .now) (c .before .before .before .before .before .before .before .before .before .before .before .before .args .id * 8) 7)
-told c = rw (c .both2 .ensures, c .before .before .within .ensures, c .before .both .ensures)
+told : (c : tie.After-both3) → c .both3 .result ≡ plausible (entryAt (c .before .before .before .before .before .before .before .before .before .before .before .before .before .before .args .t .now) (c .before .before .before .before .before .before .before .before .before .before .before .before .before .before .args .id * 9) 8)
+told c = rw (c .both3 .ensures, c .before .before .before .within .ensures, c .before .both2 .ensures, c .before .before .both .ensures)
 
 returns-2 : tie.Need-returns-2
-returns-2 c = sym (picture-none _ _ (c .before .before .before .before .before .before .before .before .before .before .before .before .if1 .left) (picture-unmade (entryAt (c .before .before .before .before .before .before .before .before .before .before .before .before .before .args .t .now) (c .before .before .before .before .before .before .before .before .before .before .before .before .before .args .id * 8) 7) (refuted (told (c .before)) (c .if2 .taken))))
+returns-2 c = sym (picture-none _ _ (c .before .before .before .before .before .before .before .before .before .before .before .before .before .before .if1 .left) (picture-unmade (entryAt (c .before .before .before .before .before .before .before .before .before .before .before .before .before .before .before .args .t .now) (c .before .before .before .before .before .before .before .before .before .before .before .before .before .before .before .args .id * 9) 8) (refuted (told (c .before)) (c .if2 .taken))))
 
 lowered-requires : tie.Need-lowered-requires
-lowered-requires c κs = (picture-made (entryAt (c .before .before .before .before .before .before .before .before .before .before .before .before .before .args .t .now) (c .before .before .before .before .before .before .before .before .before .before .before .before .before .args .id * 8) 7) (held (told (c .before)) (c .if2 .left)) .qp, lit≤ tt)
+lowered-requires c κs = (picture-made (entryAt (c .before .before .before .before .before .before .before .before .before .before .before .before .before .before .before .args .t .now) (c .before .before .before .before .before .before .before .before .before .before .before .before .before .before .before .args .id * 9) 8) (held (told (c .before)) (c .if2 .left)) .qp, lit≤ tt)
 
 lowered-requires-2 : tie.Need-lowered-requires-2
-lowered-requires-2 c κs = let h = picture-made (entryAt (c .before .before .before .before .before .before .before .before .before .before .before .before .before .before .args .t .now) (c .before .before .before .before .before .before .before .before .before .before .before .before .before .before .args .id * 8) 7) (held (told (c .before .before)) (c .before .if2 .left)) .qs in (omega (arith, h), lit≤ tt)
+lowered-requires-2 c κs = let h = picture-made (entryAt (c .before .before .before .before .before .before .before .before .before .before .before .before .before .before .before .before .args .t .now) (c .before .before .before .before .before .before .before .before .before .before .before .before .before .before .before .before .args .id * 9) 8) (held (told (c .before .before)) (c .before .if2 .left)) .qs in (omega (arith, h), lit≤ tt)
 
 picture-fits-requires : tie.Need-picture-fits-requires
 picture-fits-requires c κs = search needs
 
 -- the set as the code makes it
 is-made :
-    (c : tie.After-picture-fits) → madePicture (entryAt (c .before .before .before .before .before .before .before .before .before .before .before .before .before .before .before .before .args .t .now) (c .before .before .before .before .before .before .before .before .before .before .before .before .before .before .before .before .args .id * 8) 7) (toZ w32 (ofZ w32 (c .before .before .lowered .result))) (toZ w32 (ofZ w32 (c .before .lowered2 .result)))
-    ≡ pictureOf (entryAt (c .before .before .before .before .before .before .before .before .before .before .before .before .before .before .before .before .args .t .now) (c .before .before .before .before .before .before .before .before .before .before .before .before .before .before .before .before .args .id * 8) 7)
+    (c : tie.After-picture-fits) → madePicture (entryAt (c .before .before .before .before .before .before .before .before .before .before .before .before .before .before .before .before .before .before .args .t .now) (c .before .before .before .before .before .before .before .before .before .before .before .before .before .before .before .before .before .before .args .id * 9) 8) (toZ w32 (ofZ w32 (c .before .before .lowered .result))) (toZ w32 (ofZ w32 (c .before .lowered2 .result)))
+    ≡ pictureOf (entryAt (c .before .before .before .before .before .before .before .before .before .before .before .before .before .before .before .before .before .before .args .t .now) (c .before .before .before .before .before .before .before .before .before .before .before .before .before .before .before .before .before .before .args .id * 9) 8)
 is-made c =
     let qp : SFits w32 (c .before .before .lowered .result) = search needs in
     let qs : SFits w32 (c .before .lowered2 .result) = search needs in
-    made (entryAt (c .before .before .before .before .before .before .before .before .before .before .before .before .before .before .before .before .args .t .now) (c .before .before .before .before .before .before .before .before .before .before .before .before .before .before .before .before .args .id * 8) 7) _ _ (toZ-ofZ qp ∙ c .before .before .lowered .ensures) (toZ-ofZ qs ∙ c .before .lowered2 .ensures)
+    made (entryAt (c .before .before .before .before .before .before .before .before .before .before .before .before .before .before .before .before .before .before .args .t .now) (c .before .before .before .before .before .before .before .before .before .before .before .before .before .before .before .before .before .before .args .id * 9) 8) _ _ (toZ-ofZ qp ∙ c .before .before .lowered .ensures) (toZ-ofZ qs ∙ c .before .lowered2 .ensures)
 
 returns-3 : tie.Need-returns-3
 returns-3 c =
-    ap FoundPicture.There (is-made (c .before))
-    ∙ sym (picture-there _ _ (c .before .before .before .before .before .before .before .before .before .before .before .before .before .before .before .before .if1 .left) (picture-made (entryAt (c .before .before .before .before .before .before .before .before .before .before .before .before .before .before .before .before .before .args .t .now) (c .before .before .before .before .before .before .before .before .before .before .before .before .before .before .before .before .before .args .id * 8) 7) (held (told (c .before .before .before .before .before)) (c .before .before .before .before .if2 .left)) .rest ∙ ap pictureFits (sym (is-made (c .before))) ∙ sym (c .before .picture-fits .ensures) ∙ c .if3 .taken))
+    ap (λ (p : Picture). FoundPicture.There p (widthIn (entryAt (c .before .before .before .before .before .before .before .before .before .before .before .before .before .before .before .before .before .before .before .args .t .now) (c .before .before .before .before .before .before .before .before .before .before .before .before .before .before .before .before .before .before .before .args .id * 9) 8))) (is-made (c .before))
+    ∙ sym (picture-there _ _ (c .before .before .before .before .before .before .before .before .before .before .before .before .before .before .before .before .before .before .if1 .left) (picture-made (entryAt (c .before .before .before .before .before .before .before .before .before .before .before .before .before .before .before .before .before .before .before .args .t .now) (c .before .before .before .before .before .before .before .before .before .before .before .before .before .before .before .before .before .before .before .args .id * 9) 8) (held (told (c .before .before .before .before .before)) (c .before .before .before .before .if2 .left)) .rest ∙ ap pictureFits (sym (is-made (c .before))) ∙ sym (c .before .picture-fits .ensures) ∙ c .if3 .taken))
 
 returns-4 : tie.Need-returns-4
 returns-4 c =
-    sym (picture-none _ _ (c .before .before .before .before .before .before .before .before .before .before .before .before .before .before .before .before .if1 .left) (picture-made (entryAt (c .before .before .before .before .before .before .before .before .before .before .before .before .before .before .before .before .before .args .t .now) (c .before .before .before .before .before .before .before .before .before .before .before .before .before .before .before .before .before .args .id * 8) 7) (held (told (c .before .before .before .before .before)) (c .before .before .before .before .if2 .left)) .rest ∙ ap pictureFits (sym (is-made (c .before))) ∙ sym (c .before .picture-fits .ensures) ∙ c .if3 .left))
+    sym (picture-none _ _ (c .before .before .before .before .before .before .before .before .before .before .before .before .before .before .before .before .before .before .if1 .left) (picture-made (entryAt (c .before .before .before .before .before .before .before .before .before .before .before .before .before .before .before .before .before .before .before .args .t .now) (c .before .before .before .before .before .before .before .before .before .before .before .before .before .before .before .before .before .before .before .args .id * 9) 8) (held (told (c .before .before .before .before .before)) (c .before .before .before .before .if2 .left)) .rest ∙ ap pictureFits (sym (is-made (c .before))) ∙ sym (c .before .picture-fits .ensures) ∙ c .if3 .left))
 
 pub picture-in-spec : {M : Type 1} → statement M
 picture-in-spec =
@@ -168,9 +181,13 @@ picture-in-spec =
     add-slice-group-change-rate
     mul-slice-group-change-rate
     element-copy-out-slice-group-change-rate
+    add-width
+    mul-width
+    element-copy-out-width
     within-requires
     both-requires
     both-requires-2
+    both-requires-3
     returns-2
     lowered-requires
     lowered-requires-2

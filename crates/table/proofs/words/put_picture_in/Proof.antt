@@ -14,7 +14,7 @@ refuse-requires : tie.Need-refuse-requires
 refuse-requires c κs = search needs
 
 returns : tie.Need-returns
-returns c = rw (c .refuse .ensures) (parts (picture-put-past _ _ _ (c .before .if1 .taken)))
+returns c = rw (c .refuse .ensures) (parts (picture-put-past _ _ _ _ (c .before .if1 .taken)))
 
 picture-fits-requires : tie.Need-picture-fits-requires
 picture-fits-requires c κs = search needs
@@ -23,10 +23,16 @@ refuse-requires-2 : tie.Need-refuse-requires-2
 refuse-requires-2 c κs = search needs
 
 returns-2 : tie.Need-returns-2
-returns-2 c = rw (c .refuse2 .ensures) (parts (picture-put-unfit _ _ _ (refuted (c .before .before .picture-fits .ensures) (c .before .if2 .taken))))
+returns-2 c = rw (c .refuse2 .ensures) (parts (picture-put-unfit _ _ _ _ (refuted (c .before .before .picture-fits .ensures) (c .before .if2 .taken))))
 
 picture-marks-requires : tie.Need-picture-marks-requires
 picture-marks-requires c κs = search needs
+
+sequence-in-requires : tie.Need-sequence-in-requires
+sequence-in-requires c κs = search needs
+
+cycle-width-requires : tie.Need-cycle-width-requires
+cycle-width-requires c κs = search needs
 
 mul-k : tie.Need-mul-k
 mul-k c = search needs
@@ -77,7 +83,7 @@ element-write-t-5 : tie.Need-element-write-t-5
 element-write-t-5 c = search needs
 
 raised-requires : tie.Need-raised-requires
-raised-requires c κs = let f : SFits w32 (c .before .before .before .before .before .args .p .«pic_init_qp_minus26») = search needs in rw (toZ-ofZ f) (picture-ranges _ (held (c .before .before .before .picture-fits .ensures) (c .before .before .if2 .left)) .qp, lit≤ tt)
+raised-requires c κs = let f : SFits w32 (c .before .before .before .before .before .before .before .args .p .«pic_init_qp_minus26») = search needs in rw (toZ-ofZ f) (picture-ranges _ (held (c .before .before .before .before .before .picture-fits .ensures) (c .before .before .before .before .if2 .left)) .qp, lit≤ tt)
 
 add-t-5 : tie.Need-add-t-5
 add-t-5 c = search needs
@@ -89,7 +95,7 @@ element-write-t-6 : tie.Need-element-write-t-6
 element-write-t-6 c = search needs
 
 raised-requires-2 : tie.Need-raised-requires-2
-raised-requires-2 c κs = let f : SFits w32 (c .before .before .before .before .before .before .before .args .p .«pic_init_qs_minus26») = search needs in rw (toZ-ofZ f) (picture-ranges _ (held (c .before .before .before .before .before .picture-fits .ensures) (c .before .before .before .before .if2 .left)) .qs, lit≤ tt)
+raised-requires-2 c κs = let f : SFits w32 (c .before .before .before .before .before .before .before .before .before .args .p .«pic_init_qs_minus26») = search needs in rw (toZ-ofZ f) (picture-ranges _ (held (c .before .before .before .before .before .before .before .picture-fits .ensures) (c .before .before .before .before .before .before .if2 .left)) .qs, lit≤ tt)
 
 add-t-6 : tie.Need-add-t-6
 add-t-6 c = search needs
@@ -109,13 +115,22 @@ mul-t-8 c = search needs
 element-write-t-8 : tie.Need-element-write-t-8
 element-write-t-8 c = search needs
 
+add-t-8 : tie.Need-add-t-8
+add-t-8 c = search needs
+
+mul-t-9 : tie.Need-mul-t-9
+mul-t-9 c = search needs
+
+element-write-t-9 : tie.Need-element-write-t-9
+element-write-t-9 c = search needs
+
 returns-3 : tie.Need-returns-3
 returns-3 c =
-    let qp : SFits w32 (c .before .before .before .before .before .before .before .before .args .p .«pic_init_qp_minus26») = search needs in
-    let qs : SFits w32 (c .before .before .before .before .before .before .before .before .args .p .«pic_init_qs_minus26») = search needs in
+    let qp : SFits w32 (c .before .before .before .before .before .before .before .before .before .before .args .p .«pic_init_qp_minus26») = search needs in
+    let qs : SFits w32 (c .before .before .before .before .before .before .before .before .before .before .args .p .«pic_init_qs_minus26») = search needs in
     parts
-    (picture-put-stored _ _ _ (c .before .before .before .before .before .before .before .if1 .left) (held (c .before .before .before .before .before .before .picture-fits .ensures) (c .before .before .before .before .before .if2 .left)) _ _
-    (picture-words _ (c .before .before .before .before .picture-marks .ensures) (rw (toZ-ofZ qp) at (c .before .before .raised .ensures)) (rw (toZ-ofZ qs) at (c .raised2 .ensures))))
+    (picture-put-stored _ _ _ _ (c .before .before .before .before .before .before .before .before .before .if1 .left) (held (c .before .before .before .before .before .before .before .before .picture-fits .ensures) (c .before .before .before .before .before .before .before .if2 .left)) _ _
+    (picture-words _ _ (c .before .before .before .before .before .before .picture-marks .ensures) (rw (toZ-ofZ qp) at (c .before .before .raised .ensures)) (rw (toZ-ofZ qs) at (c .raised2 .ensures)) (c .before .before .before .before .cycle-width .ensures) (c .before .before .before .before .before .sequence-in .ensures)))
 
 pub put-picture-in-spec : {M : Type 1} → statement M
 put-picture-in-spec =
@@ -127,6 +142,8 @@ put-picture-in-spec =
     refuse-requires-2
     returns-2
     picture-marks-requires
+    sequence-in-requires
+    cycle-width-requires
     mul-k
     cast-i
     mul-t
@@ -154,4 +171,7 @@ put-picture-in-spec =
     add-t-7
     mul-t-8
     element-write-t-8
+    add-t-8
+    mul-t-9
+    element-write-t-9
     returns-3)

@@ -1,5 +1,5 @@
 use Rattle.table.proofs.Tests.{refuted, held}
-use Rattle.table.proofs.Storing.{parts, sequence-put-past, sequence-put-unfit, sequence-put-stored, sequence-words}
+use Rattle.table.proofs.Storing.{with-widths, widths-past, widths-unfit, widths-done, sequence-put-past, sequence-put-unfit, sequence-put-stored, sequence-words}
 use borrow.Author.Needs.{needs}
 use Rattle.table.proofs.words.put_sequence_in.Statement.{statement}
 use Rattle.table.proofs.words.put_sequence_in.Tie as tie
@@ -9,7 +9,7 @@ refuse-requires : tie.Need-refuse-requires
 refuse-requires c κs = search needs
 
 returns : tie.Need-returns
-returns c = rw (c .refuse .ensures) (parts (sequence-put-past _ _ _ (c .before .if1 .taken)))
+returns c = rw (c .refuse .ensures) (with-widths (sequence-put-past _ _ _ (c .before .if1 .taken)) (widths-past _ _ _ (c .before .if1 .taken)))
 
 sequence-fits-requires : tie.Need-sequence-fits-requires
 sequence-fits-requires c κs = search needs
@@ -18,7 +18,7 @@ refuse-requires-2 : tie.Need-refuse-requires-2
 refuse-requires-2 c κs = search needs
 
 returns-2 : tie.Need-returns-2
-returns-2 c = rw (c .refuse2 .ensures) (parts (sequence-put-unfit _ _ _ (refuted (c .before .before .sequence-fits .ensures) (c .before .if2 .taken))))
+returns-2 c = rw (c .refuse2 .ensures) (let f = refuted (c .before .before .sequence-fits .ensures) (c .before .if2 .taken) in with-widths (sequence-put-unfit _ _ _ f) (widths-unfit _ _ _ f))
 
 sequence-marks-requires : tie.Need-sequence-marks-requires
 sequence-marks-requires c κs = search needs
@@ -89,8 +89,15 @@ mul-t-7 c = search needs
 element-write-t-7 : tie.Need-element-write-t-7
 element-write-t-7 c = search needs
 
+renew-requires : tie.Need-renew-requires
+renew-requires c κs = search needs
+
 returns-3 : tie.Need-returns-3
-returns-3 c = parts (sequence-put-stored _ _ _ (c .before .before .before .if1 .left) (held (c .before .before .sequence-fits .ensures) (c .before .if2 .left)) _ _ (sequence-words _ (c .sequence-marks .ensures)))
+returns-3 c =
+    let h = c .before .before .before .before .before .if1 .left in
+    let g = held (c .before .before .before .before .sequence-fits .ensures) (c .before .before .before .if2 .left) in
+    rw (c .renew .ensures)
+    (with-widths (sequence-put-stored _ _ _ h g _ _ (sequence-words _ (c .before .before .sequence-marks .ensures))) (widths-done _ _ _ h g))
 
 pub put-sequence-in-spec : {M : Type 1} → statement M
 put-sequence-in-spec =
@@ -124,4 +131,5 @@ put-sequence-in-spec =
     add-t-6
     mul-t-7
     element-write-t-7
+    renew-requires
     returns-3)

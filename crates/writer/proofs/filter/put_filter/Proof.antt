@@ -17,18 +17,15 @@ put-offset-if-requires c κs = search needs
 put-offset-if-requires-2 : tie.Need-put-offset-if-requires-2
 put-offset-if-requires-2 c κs = search needs
 
-change-cycle-width-requires : tie.Need-change-cycle-width-requires
-change-cycle-width-requires c κs = search needs
-
 put-bits-if-requires : tie.Need-put-bits-if-requires
 put-bits-if-requires c κs = search needs
 
 same-length : tie.Need-same-length
-same-length c = c .before .before .put-bits-if .kept .0 ∙ c .before .before .before .before .before .before .before .put-offset-if2 .kept .0 ∙ c .before .before .before .before .before .before .before .before .before .before .before .put-offset-if .kept .0 ∙ c .before .before .before .before .before .before .before .before .before .before .before .before .before .before .before .before .before .put-tested-if .kept .0
+same-length c = c .before .before .put-bits-if .kept .0 ∙ c .before .before .before .before .before .before .put-offset-if2 .kept .0 ∙ c .before .before .before .before .before .before .before .before .before .before .put-offset-if .kept .0 ∙ c .before .before .before .before .before .before .before .before .before .before .before .before .before .before .before .before .put-tested-if .kept .0
 
 returns : tie.Need-returns
 unfolding filter
-returns c = shaped-to _ _ _ _ _ refl (on _ _ _ _ (c .before .before .before .before .before .before .before .before .before .before .before .before .before .before .before .before .before .put-tested-if .ensures) (on _ _ _ _ (rw (c .before .before .before .before .before .before .before .before .before .before .before .before .before .both .ensures) at (c .before .before .before .before .before .before .before .before .before .before .before .put-offset-if .ensures)) (on _ _ _ _ (rw (c .before .before .before .before .before .before .before .before .before .before .before .before .before .both .ensures) at (c .before .before .before .before .before .before .before .put-offset-if2 .ensures)) (rw (c .before .before .before .before .change-cycle-width .ensures) at (c .before .before .put-bits-if .ensures)))))
+returns c = shaped-to _ _ _ _ _ refl (on _ _ _ _ (c .before .before .before .before .before .before .before .before .before .before .before .before .before .before .before .before .put-tested-if .ensures) (on _ _ _ _ (rw (c .before .before .before .before .before .before .before .before .before .before .before .before .both .ensures) at (c .before .before .before .before .before .before .before .before .before .before .put-offset-if .ensures)) (on _ _ _ _ (rw (c .before .before .before .before .before .before .before .before .before .before .before .before .both .ensures) at (c .before .before .before .before .before .before .put-offset-if2 .ensures)) (c .before .before .put-bits-if .ensures))))
 
 pub put-filter-spec : {M : Type 1} → statement M
 put-filter-spec =
@@ -38,7 +35,6 @@ put-filter-spec =
     both-requires
     put-offset-if-requires
     put-offset-if-requires-2
-    change-cycle-width-requires
     put-bits-if-requires
     same-length
     returns)

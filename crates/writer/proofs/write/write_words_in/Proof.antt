@@ -53,7 +53,7 @@ returns-2 c = rw (c .why-sets .ensures, ← c .before .before .before .before .b
 write-known-requires : tie.Need-write-known-requires
 write-known-requires c κs =
     let a = c .before .before .before .before .before .before .before .before .before .before .before .args in
-    let f = known-few (tableOf (a .sequences .now) (a .pictures .now)) (getD (a .numbers .now) 2 0) _ _ (sym (c .before .before .before .before .sets-for .ensures) ∙ c .before .before .a2 .given .1) in
+    let f = known-few (tableOf (a .sequences .now) (a .pictures .now)) (getD (a .numbers .now) 2 0) _ _ _ (sym (c .before .before .before .before .sets-for .ensures) ∙ c .before .before .a2 .given .1) in
     (f .l0, f .l1)
 
 same-length : tie.Need-same-length
@@ -64,7 +64,7 @@ unfolding writeWords writeWhere headerFrom
 returns-3 c =
     let a = c .before .before .before .before .before .before .before .before .before .before .before .before .before .before .args in
     let e = sym (c .before .before .before .before .before .before .before .sets-for .ensures) ∙ c .before .before .before .before .before .a2 .given .1 in
-    rw (← c .before .before .before .before .before .before .before .before .before .before .before .before .kind-given .ensures, c .before .before .before .before .before .before .before .before .before .before .a1 .given .1, e, ← known-out (tableOf (a .sequences .now) (a .pictures .now)) _ (held (c .before .before .before .before .before .before .before .before .before .before .before .before .before .before)) (a .out .now) _ _ e) (c .before .before .write-known .ensures)
+    rw (← c .before .before .before .before .before .before .before .before .before .before .before .before .kind-given .ensures, c .before .before .before .before .before .before .before .before .before .before .a1 .given .1, e, ← known-out (tableOf (a .sequences .now) (a .pictures .now)) _ (held (c .before .before .before .before .before .before .before .before .before .before .before .before .before .before)) (a .out .now) _ _ _ e) (c .before .before .write-known .ensures)
 
 pub write-words-in-spec : {M : Type 1} → statement M
 write-words-in-spec =
