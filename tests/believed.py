@@ -191,7 +191,7 @@ def main():
                 print(what, crate, " ".join(m[2] if m[1] == "specs" else "/".join(m[1:]) for m in sorted(modules) if m[0] == crate))
         return 0
     page = (ROOT / "docs/PROMISES.md").read_text()
-    named = set(re.findall(r"`((?:demand|behind)-[\w-]+)`", page))
+    named = set(re.findall(r"`((?:demand|behind|widths)-[\w-]+)`", page))
     wrong = [f"docs/PROMISES.md does not name the theorem {name}" for name in theorems if name not in named]
     wrong += [f"docs/PROMISES.md names {name}, which is no theorem" for name in sorted(named - set(theorems))]
     wrong += differences("docs/PROMISES.md", section("docs/PROMISES.md", "Definitions to believe"), demands)
