@@ -125,12 +125,7 @@ fn put_sequence_out(
     changed_out(put_sequence_in(t, pictures, id, s))
 }
 
-fn put_picture_out(
-    sequences: &[u32; 224],
-    t: &mut [u32; 2304],
-    id: u32,
-    p: Picture,
-) -> ChangedOut
+fn put_picture_out(sequences: &[u32; 224], t: &mut [u32; 2304], id: u32, p: Picture) -> ChangedOut
     ensures { λ r. ⌜ (r ≡ changedOut (picturePut (now (sequences .entry)) (now (t .entry)) id p .answer)) × (now (t .exit) ≡ picturePut (now (sequences .entry)) (now (t .entry)) id p .left) ⌝ }
 {
     changed_out(put_picture_in(sequences, t, id, p))
