@@ -2,13 +2,11 @@
 -- writing answer as they did when the width was worked out for each slice.
 use Prim.Native.Nat.{ℕ, _+_}
 use mathlib.Core.Path.{_≡_, refl}
-use mathlib.Core.Bool.{true}
 use mathlib.Core.List.{List}
 use lib.IntN.{pos}
 use lib.ListN.{drop}
 use Rattle.bits.specs.Refusals.{got, no, bind, pick, refusalAt}
 use Rattle.bits.specs.Bits.{Bits}
-use Rattle.bits.specs.Put.{written}
 use Rattle.table.specs.declared.table.Table.{Table}
 use Rattle.table.specs.Made.{TrueWidths, BlankSequences, BlankPictures, Change, made}
 use Rattle.table.proofs.Widths.{made-sound, made-true}
@@ -21,11 +19,10 @@ use Rattle.unit.specs.Answer.{sliceAnswer}
 use Rattle.unit.specs.Begin.{begun}
 use Rattle.unit.specs.Unit.{inBody, sliceBits, afterBegin, unitRead}
 use Rattle.writer.specs.declared.given.ExtensionGiven.{ExtensionGiven}
-use Rattle.writer.specs.declared.given.KindGiven.{KindGiven}
-use Rattle.writer.specs.declared.sets.SetsFor.{SetsFor}
-use Rattle.writer.specs.Given.{kindGiven}
-use Rattle.writer.specs.Write.{outOf, setsFor, bitsOut, afterSets, afterKind, writeWhere, writeHeader}
-use Rattle.promises.specs.Before.{readBefore, begunBefore, unitBefore, setsBefore, kindBefore, writeBefore}
+use Rattle.writer.specs.Write.{writeHeader}
+use Rattle.writer.specs.Before.{writeBefore}
+use Rattle.writer.proofs.Before.{written-same}
+use Rattle.promises.specs.Before.{readBefore, begunBefore, unitBefore}
 
 -- ---- where widths are true
 
@@ -41,23 +38,13 @@ module _ (t : Table) (v : TrueWidths t) where
   begun-same u scratch (Begun.Other id) = refl
   begun-same u scratch (Begun.Refused r) = refl
 
-  sets-same : (n : UnitKind) (h : SliceHeader) (out : List ℕ) (f : SetsFor) → afterSets true t n h out f ≡ setsBefore t n h out f
-  unfolding bitsOut
-  sets-same n h out (SetsFor.There p w s) = λ i. outOf (written (header-same t v n i .good h) (header-same t v n i .bits h) out 0)
-  sets-same n h out (SetsFor.Refused r) = refl
-
-  kind-same : (h : SliceHeader) (out : List ℕ) (k : KindGiven) → afterKind true t h out k ≡ kindBefore t h out k
-  kind-same h out (KindGiven.Of n) = sets-same n h out (setsFor t (h .«pic_parameter_set_id»))
-  kind-same h out (KindGiven.Refused r) = refl
-
   -- a unit reads, and a record is written, as before
   pub widths-as-read : (u scratch : List ℕ) → unitRead t u scratch ≡ unitBefore t u scratch
   unfolding unitRead
   widths-as-read u scratch = begun-same u scratch (begun u)
 
   pub widths-as-written : (first : ℕ) (x : ExtensionGiven) (h : SliceHeader) (out : List ℕ) → writeHeader t first x h out ≡ writeBefore t first x h out
-  unfolding writeWhere
-  widths-as-written first x h out = kind-same h out (kindGiven first x)
+  widths-as-written = written-same t v
 
 -- ---- and they are, after any list of puts
 

@@ -1,11 +1,10 @@
--- Reading a unit and writing a header as they were defined before the table kept the change cycle's width (M-105): by the format that works it out.
+-- Reading a unit as it was defined before the table kept the change cycle's width (M-105): by the format that works it out.
 use Prim.Native.Nat.{ℕ, _+_}
 use mathlib.Core.List.{List}
 use lib.IntN.{pos}
 use lib.ListN.{drop}
 use Rattle.bits.specs.Refusals.{Res, got, no, bind, pick, refusalAt}
 use Rattle.bits.specs.Bits.{Bits}
-use Rattle.bits.specs.Put.{written}
 use Rattle.table.specs.declared.table.Table.{Table}
 use Rattle.syntax.specs.declared.context.UnitKind.{UnitKind}
 use Rattle.syntax.specs.declared.record.SliceHeader.{SliceHeader}
@@ -15,14 +14,7 @@ use Rattle.unit.specs.declared.begin.Begun.{Begun}
 use Rattle.unit.specs.declared.answer.UnitAnswer.{UnitAnswer}
 use Rattle.unit.specs.Answer.{sliceAnswer}
 use Rattle.unit.specs.Begin.{begun}
-use Rattle.unit.specs.Unit as unit
-use Rattle.unit.specs.Unit.{UnitOut, inBody, prefixBits}
-use Rattle.writer.specs.declared.given.ExtensionGiven.{ExtensionGiven}
-use Rattle.writer.specs.declared.given.KindGiven.{KindGiven}
-use Rattle.writer.specs.declared.sets.SetsFor.{SetsFor}
-use Rattle.writer.specs.Given.{kindGiven}
-use Rattle.writer.specs.Write as writer
-use Rattle.writer.specs.Write.{HeaderOut, outOf, setsFor}
+use Rattle.unit.specs.Unit.{UnitOut, untouched, inBody, prefixBits}
 
 abbrev pub readBefore : Table → UnitKind → Bits → Res SliceHeader
 readBefore t n s = bind (headerBefore t n .read s 0) (λ h e. pick (anySet (drop (e + 1) s)) (got h e) (no (refusalAt 22 (pos 0) e)))
@@ -30,21 +22,9 @@ readBefore t n s = bind (headerBefore t n .read s 0) (λ h e. pick (anySet (drop
 abbrev pub begunBefore : Table → List ℕ → List ℕ → Begun → UnitOut
 begunBefore t u scratch (Begun.Slice kind from) = inBody (λ s. sliceAnswer (readBefore t kind s)) u from scratch
 begunBefore t u scratch (Begun.«Prefix» there) = inBody (prefixBits there) u 4 scratch
-begunBefore t u scratch (Begun.Other id) = unit.untouched (UnitAnswer.Other id) scratch
-begunBefore t u scratch (Begun.Refused r) = unit.untouched (UnitAnswer.Refused r) scratch
+begunBefore t u scratch (Begun.Other id) = untouched (UnitAnswer.Other id) scratch
+begunBefore t u scratch (Begun.Refused r) = untouched (UnitAnswer.Refused r) scratch
 
 -- reading a unit
 abbrev pub unitBefore : Table → List ℕ → List ℕ → UnitOut
 unitBefore t u scratch = begunBefore t u scratch (begun u)
-
-abbrev pub setsBefore : Table → UnitKind → SliceHeader → List ℕ → SetsFor → HeaderOut
-setsBefore t n h out (SetsFor.There p w s) = outOf (written (headerBefore t n .good h) (headerBefore t n .bits h) out 0)
-setsBefore t n h out (SetsFor.Refused r) = writer.untouched r out
-
-abbrev pub kindBefore : Table → SliceHeader → List ℕ → KindGiven → HeaderOut
-kindBefore t h out (KindGiven.Of n) = setsBefore t n h out (setsFor t (h .«pic_parameter_set_id»))
-kindBefore t h out (KindGiven.Refused r) = writer.untouched r out
-
--- writing a record
-abbrev pub writeBefore : Table → ℕ → ExtensionGiven → SliceHeader → List ℕ → HeaderOut
-writeBefore t first x h out = kindBefore t h out (kindGiven first x)

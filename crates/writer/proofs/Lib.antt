@@ -14,3 +14,4 @@ pub mod Units
 pub mod RoundTrip
 pub mod Refusing
 pub mod Boundary
+pub mod Before
