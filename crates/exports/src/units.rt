@@ -5,7 +5,6 @@ use unit::answer::no_prefix;
 use unit::head::UnitHead;
 use unit::into::ShortAnswer;
 use unit::into::read_body_into;
-use lists::list_words::PrefixShort;
 ghost use mathlib.Core.Path.{_≡_};
 ghost use Rattle.header.specs.Lead.{tableOf};
 ghost use Rattle.unit.specs.Head.{bodyRead};

@@ -6,12 +6,12 @@ use Rattle.lines.proofs.kinds.extension_words_if.Statement.{statement}
 use Rattle.lines.proofs.kinds.extension_words_if.Tie as tie
 
 returns : tie.Need-returns
-returns c = 
+returns c =
     let e = sym (c .before .before .before .has-extension .ensures) ∙ c .before .before .if1 .taken in
     (rw e (c .extension-words .ensures .0), omega arith)
 
 returns-2 : tie.Need-returns-2
-returns-2 c = 
+returns-2 c =
     let e = sym (c .before .has-extension .ensures) ∙ c .if1 .left in
     (rw e (nothing _ _), omega arith)
 
