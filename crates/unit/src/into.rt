@@ -7,9 +7,9 @@ use crate::head::is_head_of;
 use bits::read::Cursor;
 use bits::refusals::Refusal;
 use bits::refusals::refuse;
-use fields::step::End;
 use escape::escape::Body;
 use escape::escape::unescape;
+use fields::step::End;
 use fields::step::End;
 use header::slice::clear_header;
 use header::slice::read_header_into;
@@ -214,7 +214,7 @@ fn read_into<'a>(
 pub fn read_body_into<'a>(
     head: UnitHead,
     sequences: &'a [u32; 224],
-    pictures: &'a [u32; 2048],
+    pictures: &'a [u32; 2304],
     unit: &[u8],
     scratch: &mut [u8],
     numbers: &mut [u32; 57],

@@ -50,7 +50,7 @@ pub fn next_step(recording: &[u8], from: usize) -> Step
 // A unit's head and then its body. Scratch and words are left as `read_body_into` leaves them; beside a refused head scratch is untouched, and all words are zeros.
 fn in_turn<'a>(
     sequences: &'a [u32; 224],
-    pictures: &'a [u32; 2048],
+    pictures: &'a [u32; 2304],
     unit: &[u8],
     scratch: &mut [u8],
     numbers: &mut [u32; 57],

@@ -83,7 +83,7 @@ extern "C" {
         w1: *mut WeightWords,
         base: *mut ListWords,
     );
-    fn tuz_header_bound(pictures: *const [u32; 2048], numbers: *const NumberWords) -> usize;
+    fn tuz_header_bound(pictures: *const [u32; 2304], numbers: *const NumberWords) -> usize;
     fn tuz_write_header(
         out: *mut WroteOut,
         sequences: *const [u32; 224],
