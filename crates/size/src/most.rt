@@ -23,7 +23,7 @@ fn default_counts(pictures: &[u32; 2304], id: u32) -> Defaults
     ensures { λ r. ⌜ (r .l0 ≡ pictureIn (tables.pictureIn (now (pictures .entry)) id) .«num_ref_idx_l0_default_active_minus1») × (r .l1 ≡ pictureIn (tables.pictureIn (now (pictures .entry)) id) .«num_ref_idx_l1_default_active_minus1») ⌝ }
 {
     match picture_in(pictures, id) {
-        FoundPicture::There(p) => Defaults {
+        FoundPicture::There(p, _) => Defaults {
             l0: p.num_ref_idx_l0_default_active_minus1,
             l1: p.num_ref_idx_l1_default_active_minus1,
         },
