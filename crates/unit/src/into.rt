@@ -10,7 +10,6 @@ use bits::refusals::refuse;
 use escape::escape::Body;
 use escape::escape::unescape;
 use fields::step::End;
-use fields::step::End;
 use header::slice::clear_header;
 use header::slice::read_header_into;
 use lists::list_words::PrefixShort;
