@@ -208,6 +208,8 @@ typedef struct {
 } tuz_WroteOut;
 
 #ifndef __cplusplus
+_Static_assert(sizeof(tuz_UnitHead) == 5, "tuz_UnitHead");
+_Static_assert(sizeof(tuz_HeadOut) == 16, "tuz_HeadOut");
 _Static_assert(sizeof(tuz_Table) == 10112, "tuz_Table");
 _Static_assert(sizeof(tuz_Sequence) == 32, "tuz_Sequence");
 _Static_assert(sizeof(tuz_SequenceOut) == 36, "tuz_SequenceOut");

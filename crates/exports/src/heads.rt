@@ -44,8 +44,9 @@ fn head_out(a: HeadRead) -> HeadOut
 pub(crate) fn hear_head(out: HeadOut) -> HeadRead
     ensures { λ r. ⌜ r ≡ headHeard out ⌝ }
 {
+    let head = out.head;
     if out.number == 0 {
-        return HeadRead::Got(out.head);
+        return HeadRead::Got(head);
     }
     HeadRead::Refused(refuse(out.number, out.value))
 }
