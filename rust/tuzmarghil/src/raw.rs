@@ -59,12 +59,7 @@ extern "C" {
         w1: *mut WeightWords,
         base: *mut ListWords,
     );
-    fn tuz_next_unit(
-        out: *mut StepOut,
-        recording: *const u8,
-        recording_len: usize,
-        from: usize,
-    );
+    fn tuz_next_unit(out: *mut StepOut, recording: *const u8, recording_len: usize, from: usize);
     fn tuz_walk(
         out: *mut WalkOut,
         sequences: *const [u32; 224],

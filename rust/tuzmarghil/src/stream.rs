@@ -548,6 +548,41 @@ mod tests {
         }
     }
 
+    /// Heads alone, or units in turn with heads: the same units, and what reading the others gives does not change.
+    #[test]
+    fn heads_are_of_the_same_units() {
+        let mut random = random(521288629521288629);
+        let table = Table::new();
+        for _ in 0..5_000 {
+            let s: Vec<u8> = (0..random(60))
+                .map(|_| [0, 0, 0, 1, 3, 0x65, 0x6E, 0xE5][random(8)])
+                .collect();
+            let (piece, limit) = (1 + random(12), 1 + random(20));
+            let open = || Stream::with(&s[..], piece, limit);
+            let (mut units, mut heads, mut both) = (open(), open(), open());
+            while let Some(r) = units.next(&table).unwrap() {
+                let head = heads.next_head().unwrap().unwrap();
+                assert_eq!((head.place, head.length), (r.place, r.length), "{s:?}");
+                assert_eq!(head.bytes(), r.bytes());
+                let refused = r
+                    .unit()
+                    .err()
+                    .filter(|r| matches!(r.number, 1 | 2 | 4 | 27));
+                assert_eq!(head.head().err(), refused, "{s:?}");
+                if random(2) == 0 {
+                    let r = both.next_head().unwrap().unwrap();
+                    assert_eq!((r.place, r.head()), (head.place, head.head()));
+                } else {
+                    let again = both.next(&table).unwrap().unwrap();
+                    assert_eq!((again.place, again.unit()), (r.place, r.unit()), "{s:?}");
+                }
+            }
+            assert!(heads.next_head().unwrap().is_none());
+            assert!(both.next_head().unwrap().is_none());
+            assert_eq!(heads.position(), units.position());
+        }
+    }
+
     /// What is in no unit takes no memory.
     #[test]
     fn zeros_take_no_memory() {
