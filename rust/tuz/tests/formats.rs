@@ -101,11 +101,11 @@ fn a_refusal_is_explained() {
         let told = out(&tuz(&["explain", number], &[]));
         assert!(told.contains(&format!("\nbit: {place}\n")), "{told}");
     }
-    assert_eq!(out(&tuz(&["explain"], &[])).lines().count(), 27);
+    assert_eq!(out(&tuz(&["explain"], &[])).lines().count(), 28);
     let done = tuz(&["explain", "28"], &[]);
     assert_eq!(
         (err(&done).as_str(), done.status.code()),
-        ("tuz: 28 is no refusal: they are 1 to 27\n", Some(2))
+        ("tuz: 28 is no refusal: they are 1 to 27 and 34\n", Some(2))
     );
 }
 
