@@ -102,7 +102,7 @@ fn told(answer: ShortAnswer, bits: usize, is_same: bool) {
 // A unit's head, and then its body.
 fn read_in_turn<'a>(
     sequences: &'a [u32; 224],
-    pictures: &'a [u32; 2048],
+    pictures: &'a [u32; 2304],
     u: &[u8],
     scratch: &mut [u8],
     numbers: &mut [u32; 57],
