@@ -13,9 +13,6 @@ ghost use mathlib.Core.Path.{_≡_};
 ghost use Rattle.nal.specs.Extension.{extensionOf};
 ghost use Rattle.unit.specs.Head.{headExtended, headTyped, headOf, equal, sameHead};
 
-// A head that is not the unit's own.
-pub const NOT_ITS_HEAD: u8 = 34;
-
 #[repr(C)]
 pub struct UnitHead {
     // the number of nal_unit_type

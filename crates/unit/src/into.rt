@@ -1,10 +1,10 @@
 // A unit's body read into words that the caller lends: the answer holds neither fields nor lists of a header, so no record is copied on its way to the caller.
 use crate::begin::Begun;
 use crate::begin::begin;
-use crate::head::NOT_ITS_HEAD;
 use crate::head::UnitHead;
 use crate::head::is_head_of;
 use bits::read::Cursor;
+use bits::refusals::NOT_ITS_HEAD;
 use bits::refusals::Refusal;
 use bits::refusals::refuse;
 use escape::escape::Body;
