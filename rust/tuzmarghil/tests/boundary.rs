@@ -917,7 +917,7 @@ fn head_and_body_in_turn() {
             }
         }
         assert_eq!(out, walked.read, "{unit:?}");
-        assert_eq!((own_scratch, &own == &words), (scratch, true), "{unit:?}");
+        assert_eq!((own_scratch, own == words), (scratch, true), "{unit:?}");
         assert_eq!(
             Unit::head(&unit).and_then(|head| Unit::body(&table, head, &unit, &mut Vec::new())),
             read_unit(&table, &unit, &mut Vec::new())
