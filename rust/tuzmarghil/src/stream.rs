@@ -242,14 +242,18 @@ impl<R: Read> Stream<R> {
     /// A step of the walk in the window: a unit's place and length, and the place to go on from.
     fn step(&mut self, table: Option<&Table>) -> Option<(usize, usize, usize)> {
         let window = &self.buffer[..self.window];
-        let Some(table) = table else {
-            let out = raw::next_unit(window, self.at);
-            return (out.step == 1).then_some((out.place, out.length, out.next));
-        };
-        lengthen(&mut self.scratch, self.window);
-        let (scratch, words, out) = (&mut self.scratch, &mut self.words, &mut self.out);
-        raw::walk(table.as_raw(), window, self.at, scratch, words, out);
-        (out.step == 1).then_some((out.place, out.length, out.next))
+        match table {
+            None => {
+                let out = raw::next_unit(window, self.at);
+                (out.step == 1).then_some((out.place, out.length, out.next))
+            }
+            Some(table) => {
+                lengthen(&mut self.scratch, self.window);
+                let (scratch, words, out) = (&mut self.scratch, &mut self.words, &mut self.out);
+                raw::walk(table.as_raw(), window, self.at, scratch, words, out);
+                (out.step == 1).then_some((out.place, out.length, out.next))
+            }
+        }
     }
 
     fn head(&self, found: Found) -> StreamHead<'_> {
