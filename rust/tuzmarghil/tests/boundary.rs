@@ -475,8 +475,9 @@ fn prefix_by_its_extension() {
             b.u(1, u32::from(bit - b'0'));
         }
         let unit = b.unit(&front);
-        let Ok(Unit::Prefix(prefix)) = read_unit(&Table::new(), &unit, &mut Vec::new()) else {
-            panic!("{bits}");
+        let prefix = match read_unit(&Table::new(), &unit, &mut Vec::new()) {
+            Ok(Unit::Prefix(prefix)) => prefix,
+            other => panic!("{other:?}"),
         };
         let body = prefix.ref_base_pic.unwrap();
         let marking = body.dec_ref_base_pic_marking;
