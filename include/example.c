@@ -1,4 +1,5 @@
 /* example CLIP: the units of a recording by the sample sets, as `tuz list CLIP --sample -q` prints them.
+ * example CLIP kinds: what their first bytes say, as `tuz kinds CLIP -q` prints it.
  *
  *     cc -Iinclude include/example.c target/staticlib/libexports.a -o example
  */
@@ -39,14 +40,33 @@ static uint8_t *bytes_of(const char *path, size_t *length) {
   return bytes;
 }
 
+/* Each unit's head; no table and no scratch are needed. */
+static int kinds(const uint8_t *recording, size_t length) {
+  size_t units = 0, refused = 0;
+  uint8_t line[128];
+  tuz_StepOut step = {0};
+  for (;; units++) {
+    tuz_next_unit(&step, recording, length, step.next);
+    if (step.step != 1)
+      break;
+    tuz_HeadOut head = tuz_head(recording + step.place, step.length);
+    refused += head.number != 0;
+    fwrite(line, 1, tuz_head_line(line, step.place, step.length, head), stdout);
+  }
+  fwrite(line, 1, tuz_end_line(line, units, refused), stdout);
+  return step.step == 2 ? 2 : 0;
+}
+
 int main(int count, char **words) {
   size_t length = 0, units = 0, refused = 0;
-  uint8_t *recording = count == 2 ? bytes_of(words[1], &length) : NULL;
+  uint8_t *recording = count == 2 || count == 3 ? bytes_of(words[1], &length) : NULL;
   uint8_t *scratch = malloc(length + 1);
   if (!recording || !scratch)
     return 2;
   if (tuz_layout() != TUZ_LAYOUT)
     return 2;
+  if (count == 3)
+    return kinds(recording, length);
   put_sample();
   tuz_WalkOut step = {0};
   for (;; units++) {

@@ -16,10 +16,28 @@ extern "C" {
 #endif
 
 /* The number of this layout: what tuz_layout() answers in an archive made from the same sources. */
-#define TUZ_LAYOUT 6
+#define TUZ_LAYOUT 7
 
 /* The bytes of a buffer that holds every slice header: tuz_write_header never answers 26 to it. */
 #define TUZ_HEADER_BYTES 6144
+
+typedef struct {
+  /* the number of nal_unit_type */
+  uint8_t nal_unit_type;
+  uint8_t nal_ref_idc;
+  /* the extension's three bytes, of types 14, 20 and 21; zeros for all others */
+  uint8_t b1;
+  uint8_t b2;
+  uint8_t b3;
+} tuz_UnitHead;
+
+/* A unit's head. Beside a refusal its fields are zero. */
+typedef struct {
+  /* the refusal's value and number; 0 and 0 where there is none */
+  int64_t value;
+  uint8_t number;
+  tuz_UnitHead head;
+} tuz_HeadOut;
 
 typedef struct {
   uint32_t sequences[224];
@@ -146,6 +164,19 @@ typedef struct {
   tuz_PrefixShort prefix;
 } tuz_ReadOut;
 
+/* The step's part of it, where nothing is read. */
+typedef struct {
+  /* 0: the end; 1: a unit; 2: refused */
+  uint32_t step;
+  /* the refusal's number and value */
+  uint32_t number;
+  int64_t value;
+  /* where the unit begins, after its start code, how many bytes it has, and where to go on */
+  size_t place;
+  size_t length;
+  size_t next;
+} tuz_StepOut;
+
 /* A step of the walk. What it does not speak of is zero. */
 typedef struct {
   /* 0: the end; 1: a unit; 2: refused */
@@ -177,6 +208,8 @@ typedef struct {
 } tuz_WroteOut;
 
 #ifndef __cplusplus
+_Static_assert(sizeof(tuz_UnitHead) == 5, "tuz_UnitHead");
+_Static_assert(sizeof(tuz_HeadOut) == 16, "tuz_HeadOut");
 _Static_assert(sizeof(tuz_Table) == 10112, "tuz_Table");
 _Static_assert(sizeof(tuz_Sequence) == 32, "tuz_Sequence");
 _Static_assert(sizeof(tuz_SequenceOut) == 36, "tuz_SequenceOut");
@@ -190,6 +223,7 @@ _Static_assert(sizeof(tuz_ExtensionOut) == 18, "tuz_ExtensionOut");
 _Static_assert(sizeof(tuz_MarkedFlag) == 2, "tuz_MarkedFlag");
 _Static_assert(sizeof(tuz_PrefixShort) == 12, "tuz_PrefixShort");
 _Static_assert(sizeof(tuz_ReadOut) == 56, "tuz_ReadOut");
+_Static_assert(sizeof(tuz_StepOut) == 40, "tuz_StepOut");
 _Static_assert(sizeof(tuz_WalkOut) == 96, "tuz_WalkOut");
 _Static_assert(sizeof(tuz_ExtensionGiven) == 4, "tuz_ExtensionGiven");
 _Static_assert(sizeof(tuz_WroteOut) == 24, "tuz_WroteOut");
@@ -268,12 +302,18 @@ enum tuz_signed {
 };
 
 /* How many bits the header that words hold has at most, by a table's array of picture sets and the header's numbers alone. A buffer with room for as many bits is never too short for `tuz_write_header`. */
-size_t tuz_header_bound(const uint32_t pictures[2048], const uint32_t numbers[57]);
+size_t tuz_header_bound(const uint32_t pictures[2304], const uint32_t numbers[57]);
+
+/* What a unit's first bytes say. `tuz_body` takes the answer's `head`, and reads the body. */
+tuz_HeadOut tuz_head(const uint8_t *unit, size_t unit_len);
 
 uint32_t tuz_layout(void);
 
 /* A unit's line: its place and length in the recording, its bytes, which only a prefix unit's line looks at, `answer`, `number`, `value`, `has_bit` and `bit` of its ReadOut, and the words of a slice's fields. */
 size_t tuz_unit_line(uint8_t line[128], const uint32_t pictures[2304], size_t place, size_t length, const uint8_t *unit, size_t unit_len, uint32_t answer, uint8_t number, int64_t value, bool has_bit, size_t bit, const uint32_t numbers[57], const int32_t signed_numbers[7]);
+
+/* A unit's line in a listing of kinds: its place and length in the recording, and what `tuz_head` answers. */
+size_t tuz_head_line(uint8_t line[128], size_t place, size_t length, tuz_HeadOut out);
 
 /* The last line: how many units there were, and how many of them were refused. */
 size_t tuz_end_line(uint8_t line[128], size_t units, size_t refused);
@@ -305,13 +345,16 @@ uint32_t tuz_unit_type(uint8_t id);
 /* The three bytes of an extension. */
 void tuz_extension(tuz_ExtensionOut *result, uint8_t b1, uint8_t b2, uint8_t b3);
 
-/* A unit read by the sets in a table's two arrays. Scratch needs as many bytes as the unit has. A slice's header goes to `numbers` and `signed` (fields) and to l0, l1, marking, w0 and w1 (lists), a prefix unit's list to `base`; all other words stay as they were, so words that were zeros behind their counts stay so. Beside a refusal all words are zeros. */
-void tuz_read_unit(tuz_ReadOut *result, const uint32_t sequences[224], const uint32_t pictures[2304], const uint8_t *unit, size_t unit_len, uint8_t *scratch, size_t scratch_len, uint32_t numbers[57], int32_t signed_numbers[7], uint32_t l0[198], uint32_t l1[198], uint32_t marking[198], int32_t w0[256], int32_t w1[256], uint32_t base[198]);
+/* The body of a unit, for whoever has its head (`tuz_head`), by the sets in a table's two arrays; another's head is 34. Scratch needs as many bytes as the unit has. A slice's header goes to `numbers` and `signed` (fields) and to l0, l1, marking, w0 and w1 (lists), a prefix unit's list to `base`; all other words stay as they were, so words that were zeros behind their counts stay so. Beside a refusal all words are zeros. */
+void tuz_body(tuz_ReadOut *result, tuz_UnitHead head, const uint32_t sequences[224], const uint32_t pictures[2304], const uint8_t *unit, size_t unit_len, uint8_t *scratch, size_t scratch_len, uint32_t numbers[57], int32_t signed_numbers[7], uint32_t l0[198], uint32_t l1[198], uint32_t marking[198], int32_t w0[256], int32_t w1[256], uint32_t base[198]);
 
-/* One step of the walk from a place on, by the sets in a table's two arrays. Scratch needs as many bytes as the longest unit has. Words are written as by `tuz_read_unit`; where there is no unit, none is. */
+/* One step of the walk from a place on, with nothing read: the unit's bytes are for `tuz_head`. */
+void tuz_next_unit(tuz_StepOut *result, const uint8_t *recording, size_t recording_len, size_t from);
+
+/* One step of the walk from a place on, by the sets in a table's two arrays. Scratch needs as many bytes as the longest unit has. Words are written as by `tuz_body`; where there is no unit, none is. */
 void tuz_walk(tuz_WalkOut *result, const uint32_t sequences[224], const uint32_t pictures[2304], const uint8_t *recording, size_t recording_len, size_t from, uint8_t *scratch, size_t scratch_len, uint32_t numbers[57], int32_t signed_numbers[7], uint32_t l0[198], uint32_t l1[198], uint32_t marking[198], int32_t w0[256], int32_t w1[256], uint32_t base[198]);
 
-/* The header that words hold, as `tuz_read_unit` lays them down, written by the sets in a table's two arrays, for the unit that the first byte and the extension tell of. A refusal leaves the buffer as it was. Words behind a list's count are not looked at. */
+/* The header that words hold, as `tuz_body` lays them down, written by the sets in a table's two arrays, for the unit that the first byte and the extension tell of. A refusal leaves the buffer as it was. Words behind a list's count are not looked at. */
 void tuz_write_header(tuz_WroteOut *result, const uint32_t sequences[224], const uint32_t pictures[2304], uint8_t first, tuz_ExtensionGiven extension, const uint32_t numbers[57], const int32_t signed_numbers[7], const uint32_t l0[198], const uint32_t l1[198], const uint32_t marking[198], const int32_t w0[256], const int32_t w1[256], uint8_t *out, size_t out_len);
 
 #ifdef __cplusplus

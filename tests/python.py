@@ -33,11 +33,23 @@ def told(port, clip, table):
         yield {name: unit.get(name) for name in NAMES}
 
 
+KINDS = "place length nal_unit_type nal_ref_idc ext ext_bytes refusal value why".split()
+
+
+def kinds_told(port, clip):
+    words = [port, "kinds", clip, "-q", "--format", "json"]
+    for line in subprocess.run(words, check=True, capture_output=True, text=True).stdout.splitlines():
+        unit = json.loads(line)
+        yield {name: unit.get("type" if name == "nal_unit_type" else name) for name in KINDS}
+
+
 def compared(port, clip, table):
     sets = table.read_text()
     wanted = list(told(port, str(clip), str(table)))
     found = [{name: getattr(r, name) for name in NAMES} for r in tuzmarghil.reports(clip, sets)]
     held(f"{clip.name}: another unit", wanted == found and wanted)
+    kinds = [{name: getattr(k, name) for name in KINDS} for k in tuzmarghil.kinds(clip)]
+    held(f"{clip.name}: another kind", kinds == list(kinds_told(port, str(clip))) and len(kinds) == len(wanted))
     qp = numpy.asarray(tuzmarghil.qp(str(clip), table=sets))
     points = [numpy.nan if u["answer"] == "refused" else u["qp"] for u in wanted if u["answer"] in ("slice", "refused")]
     held(f"{clip.name}: another QP", numpy.array_equal(qp, points, equal_nan=True) and qp.dtype == numpy.float64)
@@ -51,6 +63,8 @@ def errors():
     for call, kind in [
         (lambda: tuzmarghil.reports("/nowhere/clip.264"), OSError),
         (lambda: tuzmarghil.qp("/nowhere/clip.264"), OSError),
+        (lambda: tuzmarghil.kinds("/nowhere/clip.264"), OSError),
+        (lambda: tuzmarghil.kinds(movie), ValueError),
         (lambda: list(tuzmarghil.reports(ROOT)), OSError),
         (lambda: tuzmarghil.reports(movie), ValueError),
         (lambda: tuzmarghil.reports(clip, "sps:0"), ValueError),
@@ -67,6 +81,7 @@ def errors():
     held("a refusal does not show its place", "refusal=9 bit=" in repr(unread[0]))
     held("the sample sets are not sets", next(tuzmarghil.reports(clip, tuzmarghil.SAMPLE)).answer == "other")
     held("a report does not show itself", "place=4" in repr(next(tuzmarghil.reports(clip))))
+    held("a kind does not show itself", "place=4 length=22 type=7" in repr(next(tuzmarghil.kinds(clip))))
 
 
 def main():

@@ -3,6 +3,7 @@
 
 rules.py cases FILE               an answer line for each case line
 rules.py list [--table FILE] CLIP a listing; FILE holds sps: and pps: words, else the sample sets serve
+rules.py kinds CLIP               what the first bytes of each unit say
 The formats are those of the command `tuz`: docs/CASES.md.
 """
 import re
@@ -325,7 +326,8 @@ def told(r):
     return f"refused {number} value={value}" + "".join(f" bit={b}" for b in bit)
 
 
-def answered(table, unit, prefix):
+def head(unit):
+    """What the first bytes say: type, nal_ref_idc, and the three bytes of extension, or none."""
     if len(unit) > LIMIT:
         raise Refused(27, 0)
     if not unit:
@@ -333,11 +335,18 @@ def answered(table, unit, prefix):
     if unit[0] & 0x80:
         raise Refused(2, 0)
     ref_idc, kind = unit[0] >> 5, unit[0] & 31
+    if kind not in (14, 20, 21):
+        return kind, ref_idc, b""
+    if len(unit) < 4:
+        raise Refused(4, 0)
+    return kind, ref_idc, unit[1:4]
+
+
+def answered(table, unit, prefix):
+    kind, ref_idc, extension = head(unit)
     if kind not in (1, 5, 14, 20, 21):
         return f"other type={kind}"
-    if kind >= 14 and len(unit) < 4:
-        raise Refused(4, 0)
-    extension, rest = (unit[1:4], unit[4:]) if kind >= 14 else (b"", unit[1:])
+    rest = unit[1 + len(extension) :]
     words = [f"nal_ref_idc={ref_idc}"]
     if kind == 14:
         words += extension_words(extension)
@@ -378,6 +387,29 @@ def listing(table, recording):
     yield f"end units={count} refused={refused}"
 
 
+def kind_words(unit):
+    """A unit's line in a listing of kinds, behind its length."""
+    try:
+        kind, ref_idc, extension = head(unit)
+    except Refused as r:
+        return told(r)
+    words = [f"type={kind} nal_ref_idc={ref_idc}"]
+    if extension:
+        words += [extension_words(extension)[0], extension.hex()]
+    return " ".join(words)
+
+
+def kinds(recording):
+    """The lines of a listing of kinds."""
+    count = refused = 0
+    for place, unit in units(recording):
+        line = kind_words(unit)
+        count += 1
+        refused += line.startswith("refused")
+        yield f"unit place={place} length={len(unit)} {line}"
+    yield f"end units={count} refused={refused}"
+
+
 def cases(path):
     """The answer lines for a case file."""
     before, table = None, {}
@@ -393,6 +425,8 @@ def cases(path):
 def main(command, *words):
     if command == "cases":
         lines = cases(words[0])
+    elif command == "kinds":
+        lines = kinds(open(words[0], "rb").read())
     else:
         given = open(words[1]).read().split() if words[0] == "--table" else SAMPLE.split()
         lines = listing(table_of(given), open(words[-1], "rb").read())

@@ -71,9 +71,27 @@ for n in (0, 66, 67):
 prefix("a base marking operation 2", USES, "01" + ue(2) + ue(5) + ue(0) + "0", store=0, adaptive=1, base=1, more=0)
 prefix("a base marking operation 3", USES, "01" + ue(3) + ue(5), (23, 3, "01"))
 
+
+def headed(name, other, whole, said):
+    """The body of a unit, read for the head of another."""
+    cases.append(((other, whole) if other else whole, f"{name}: {said}"))
+
+
+first, stores = unit(0x01, p_slice(qp=25)), cases[[line.split(":")[0] for _, line in cases].index("a prefix that stores, sliding window")][0]
+headed("a first byte over 127", b"", b"\x81", "refused 2 value=0")
+headed("an extension of one byte", b"", b"\x6e\x80", "refused 4 value=0")
+for what, other, whole in (
+    ("of another type", b"\x05", first),
+    ("of another nal_ref_idc", b"\x21", first),
+    ("with another extension", b"\x6e" + USES, stores),
+    ("for a unit without one", b"\x01", b"\x81"),
+):
+    headed(f"a head {what}", other, whole, "refused 34 value=0")
+headed("its own head", b"\x01", first, f"slice bits={len(p_slice(qp=25))} slice_type=5 active=0 mods=0 idc=0")
+
 source = (CRATES / "try_unit/src/cases.rt").read_text()
 literals = [bytes.fromhex(x.replace("\\x", "")) for x in re.findall(r'b"((?:\\x[0-9a-f]{2})+)"', source)]
-if literals != [u for u, _ in cases]:
+if literals != [u for given, _ in cases for u in (given if isinstance(given, tuple) else (given,))]:
     print("try_unit: the units in crates/try_unit/src/cases.rt are not those that tests/try_unit.py makes")
     sys.exit(1)
 hold("try_unit", [line for _, line in cases])

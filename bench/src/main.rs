@@ -128,7 +128,7 @@ fn main() {
     if asked("sets") {
         bars.at_most("a look-up of a picture set, ns", sets::lookup(), 10.0);
         let name = "a put of a sequence set that 256 picture sets name, ns";
-        bars.at_most(name, sets::put(), 10_000.0);
+        bars.at_most(name, sets::put(), 2_000.0);
     }
     std::process::exit(if bars.print() { 0 } else { 1 });
 }

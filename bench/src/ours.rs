@@ -92,6 +92,23 @@ pub fn walk_all<'a>(
     }
 }
 
+/// What `tuz kinds` does: every unit found, and its first bytes looked at.
+pub fn kinds(recording: &[u8]) -> impl FnMut() -> Found + '_ {
+    move || {
+        let (mut found, mut from) = (Found::default(), 0);
+        loop {
+            let step = raw::next_unit(recording, from);
+            if step.step != A_UNIT {
+                return found;
+            }
+            let head = raw::head(&recording[step.place..][..step.length]);
+            found.units += u64::from(head.number == 0);
+            found.lengths += step.length as u64;
+            from = step.next;
+        }
+    }
+}
+
 /// The sum of the lengths of the slices' bodies, each body compared with what a plain loop makes of the unit; every unit compared with where a plain search found it.
 pub fn compared(table: &Table, recording: &[u8], units: &[(usize, usize)]) -> u64 {
     let longest = units.iter().map(|u| u.1).max().unwrap_or(0);

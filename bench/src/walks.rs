@@ -33,6 +33,12 @@ fn lanes<'a>(
 
     let walk = ours::walk(&recording.table, bytes, longest);
     let mut lanes = vec![Lane::new("ours", want, walk)];
+    let kinds = Found {
+        units: want.units,
+        lengths: want.lengths,
+        ..nothing
+    };
+    lanes.push(Lane::new("kinds alone", kinds, ours::kinds(bytes)));
     for (name, peer) in &peers.h264_reader {
         let open = peer.open(&recording.sets);
         for (job, text, want) in [

@@ -5,7 +5,7 @@ use std::{env, fs};
 
 /// The crate that exports, and the files whose `#[repr(C)]` structs cross the boundary, or are made of the words that do (`Prefix` stands among them and is neither).
 const EXPORTS: &str = "exports";
-const RECORDS: [&str; 13] = [
+const RECORDS: [&str; 15] = [
     "table/src/sets.rt",
     "table/src/table.rt",
     "syntax/src/marks.rt",
@@ -13,7 +13,9 @@ const RECORDS: [&str; 13] = [
     "lists/src/list_words.rt",
     "weights/src/weight_words.rt",
     "header/src/slice.rt",
+    "unit/src/head.rt",
     "exports/src/sets.rt",
+    "exports/src/heads.rt",
     "exports/src/units.rt",
     "exports/src/walks.rt",
     "writer/src/given.rt",

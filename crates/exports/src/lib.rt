@@ -3,7 +3,8 @@ pub mod layout; // its number
 pub mod ue_run; // a run of codes
 pub mod sets; // the parameter table
 pub mod starts; // what a unit starts with
-pub mod units; // whole units
+pub mod heads; // its head
+pub mod units; // its body
 pub mod walks; // the walk over a recording
 pub mod listings; // the lines of a listing
 pub mod quants; // QP and QS

@@ -1,12 +1,17 @@
 // The lines of a listing, for a host that walks by itself: each is written to the front of a lent buffer of 128 bytes, and the answer is its length.
+use crate::heads::HeadOut;
+use crate::heads::hear_head;
 use bits::refusals::Refusal;
+use lines::kinds::head_line;
 use lines::line::end_line;
 use lines::line::unit_line;
 use unit::answer::no_prefix;
 use unit::into::ShortAnswer;
 ghost use mathlib.Core.Path.{_≡_};
 ghost use Rattle.lines.specs.Lines.{lentLine, endLine, Written};
+ghost use Rattle.lines.specs.Kinds.{headLine};
 ghost use Rattle.exports.specs.Listings.{heard};
+ghost use Rattle.exports.specs.Heads.{headHeard};
 
 // What a ReadOut's numbers tell, as far as a line speaks of it.
 fn hear(answer: u32, number: u8, value: i64, has_bit: bool, bit: usize) -> ShortAnswer
@@ -50,6 +55,19 @@ pub extern "C" fn tuz_unit_line(
 {
     let a = hear(answer, number, value, has_bit, bit);
     unit_line(line, pictures, place, length, unit, a, numbers, signed)
+}
+
+// A unit's line in a listing of kinds: its place and length in the recording, and what `tuz_head` answers.
+#[no_mangle]
+pub extern "C" fn tuz_head_line(
+    line: &mut [u8; 128],
+    place: usize,
+    length: usize,
+    out: HeadOut,
+) -> usize
+    ensures { λ r. ⌜ Written (headLine place length (headHeard out)) (now (line .entry)) r (now (line .exit)) ⌝ }
+{
+    head_line(line, place, length, hear_head(out))
 }
 
 // The last line: how many units there were, and how many of them were refused.

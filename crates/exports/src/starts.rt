@@ -1,5 +1,4 @@
 // What a unit starts with, field by field: its first byte and its extension.
-use fields::conditions::either;
 use nal::extension::NalHeaderExtension;
 use nal::extension::NalHeaderMvcExtension;
 use nal::extension::NalHeaderSvcExtension;
@@ -7,10 +6,10 @@ use nal::header::NalHeader;
 use nal::header::NalHeaderRead;
 use nal::unit_type::UnitType;
 use nal::unit_type::UnitTypeForId;
+use unit::begin::has_extension;
 ghost use mathlib.Core.Path.{_≡_};
 ghost use Rattle.nal.specs.UnitType.{forId};
 ghost use Rattle.nal.specs.Header.{headerFrom};
-ghost use Rattle.unit.specs.Begin.{hasExtension};
 ghost use Rattle.exports.specs.Starts.{headerOut, kindOf, kindFor, isSvc, svcOut, mvcOut, extensionOut};
 
 // A first byte. Beside a refusal the other fields are zero.
@@ -58,12 +57,6 @@ pub struct ExtensionOut {
     pub is_svc: bool,
     pub svc: SvcExtensionOut,
     pub mvc: MvcExtensionOut,
-}
-
-fn has_extension(t: u8) -> bool
-    ensures { λ r. ⌜ r ≡ hasExtension t ⌝ }
-{
-    either(t == 14, either(t == 20, t == 21))
 }
 
 fn header_out(a: NalHeaderRead) -> NalHeaderOut

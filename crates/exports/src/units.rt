@@ -1,12 +1,13 @@
-// Whole units.
+// A unit's body.
 use bits::refusals::Refusal;
 use lists::list_words::PrefixShort;
 use unit::answer::no_prefix;
+use unit::head::UnitHead;
 use unit::into::ShortAnswer;
-use unit::into::read_unit_into;
+use unit::into::read_body_into;
 ghost use mathlib.Core.Path.{_≡_};
 ghost use Rattle.header.specs.Lead.{tableOf};
-ghost use Rattle.unit.specs.Unit.{unitRead};
+ghost use Rattle.unit.specs.Head.{bodyRead};
 ghost use Rattle.unit.specs.Into.{lentWords, wordsAfter};
 ghost use Rattle.exports.specs.Units.{told, unitOut};
 
@@ -71,10 +72,11 @@ pub(crate) fn tell(a: ShortAnswer) -> ReadOut
     }
 }
 
-// A unit read by the sets in a table's two arrays. Scratch needs as many bytes as the unit has. A slice's header goes to `numbers` and `signed` (fields) and to l0,
+// The body of a unit, for whoever has its head (`tuz_head`), by the sets in a table's two arrays; another's head is 34. Scratch needs as many bytes as the unit has. A slice's header goes to `numbers` and `signed` (fields) and to l0,
 // l1, marking, w0 and w1 (lists), a prefix unit's list to `base`; all other words stay as they were, so words that were zeros behind their counts stay so. Beside a refusal all words are zeros.
 #[no_mangle]
-pub extern "C" fn tuz_read_unit<'a>(
+pub extern "C" fn tuz_body<'a>(
+    head: UnitHead,
     sequences: &'a [u32; 224],
     pictures: &'a [u32; 2304],
     unit: &[u8],
@@ -88,10 +90,11 @@ pub extern "C" fn tuz_read_unit<'a>(
     w1: &mut [i32; 256],
     base: &mut [u32; 198],
 ) -> ReadOut
-    ensures { λ r. ⌜ (r ≡ unitOut (unitRead (tableOf (now (sequences .entry)) (now (pictures .entry))) (now (unit .entry)) (now (scratch .entry)) .read)) × (now (scratch .exit) ≡ unitRead (tableOf (now (sequences .entry)) (now (pictures .entry))) (now (unit .entry)) (now (scratch .entry)) .left) ⌝ }
-    ensures words { λ r. ⌜ lentWords numbers signed l0 l1 marking w0 w1 base .exit ≡ wordsAfter (unitRead (tableOf (now (sequences .entry)) (now (pictures .entry))) (now (unit .entry)) (now (scratch .entry)) .read) (lentWords numbers signed l0 l1 marking w0 w1 base .entry) ⌝ }
+    ensures { λ r. ⌜ (r ≡ unitOut (bodyRead (tableOf (now (sequences .entry)) (now (pictures .entry))) head (now (unit .entry)) (now (scratch .entry)) .read)) × (now (scratch .exit) ≡ bodyRead (tableOf (now (sequences .entry)) (now (pictures .entry))) head (now (unit .entry)) (now (scratch .entry)) .left) ⌝ }
+    ensures words { λ r. ⌜ lentWords numbers signed l0 l1 marking w0 w1 base .exit ≡ wordsAfter (bodyRead (tableOf (now (sequences .entry)) (now (pictures .entry))) head (now (unit .entry)) (now (scratch .entry)) .read) (lentWords numbers signed l0 l1 marking w0 w1 base .entry) ⌝ }
 {
-    tell(read_unit_into(
+    tell(read_body_into(
+        head,
         sequences,
         pictures,
         unit,

@@ -4,10 +4,11 @@ use crate::units::tell;
 use bits::refusals::Refusal;
 use unit::into::ShortAnswer;
 use walk::walk::Step;
+use walk::walk::next_step;
 use walk::walk::walk_into;
 ghost use mathlib.Core.Path.{_≡_};
 ghost use Rattle.header.specs.Lead.{tableOf};
-ghost use Rattle.walk.specs.Walked.{walked};
+ghost use Rattle.walk.specs.Walked.{nextStep, walked};
 ghost use Rattle.unit.specs.Into.{lentWords, wordsAfter};
 ghost use Rattle.exports.specs.Walks.{came, walkTold, walkOut};
 
@@ -27,21 +28,25 @@ pub struct WalkOut {
     pub read: ReadOut,
 }
 
-// The step's part of it.
-struct Came {
-    step: u32,
-    number: u32,
-    value: i64,
-    place: usize,
-    length: usize,
-    next: usize,
+// The step's part of it, where nothing is read.
+#[repr(C)]
+pub struct StepOut {
+    // 0: the end; 1: a unit; 2: refused
+    pub step: u32,
+    // the refusal's number and value
+    pub number: u32,
+    pub value: i64,
+    // where the unit begins, after its start code, how many bytes it has, and where to go on
+    pub place: usize,
+    pub length: usize,
+    pub next: usize,
 }
 
-fn come(s: Step) -> Came
+fn come(s: Step) -> StepOut
     ensures { λ r. ⌜ r ≡ came s ⌝ }
 {
     match s {
-        Step::Unit(place, length, next) => Came {
+        Step::Unit(place, length, next) => StepOut {
             step: 1,
             number: 0,
             value: 0,
@@ -49,7 +54,7 @@ fn come(s: Step) -> Came
             length,
             next,
         },
-        Step::End => Came {
+        Step::End => StepOut {
             step: 0,
             number: 0,
             value: 0,
@@ -57,7 +62,7 @@ fn come(s: Step) -> Came
             length: 0,
             next: 0,
         },
-        Step::Refused(why) => Came {
+        Step::Refused(why) => StepOut {
             step: 2,
             number: why.number as u32,
             value: why.value,
@@ -84,7 +89,15 @@ fn walk_told(s: Step, a: ShortAnswer) -> WalkOut
     }
 }
 
-// One step of the walk from a place on, by the sets in a table's two arrays. Scratch needs as many bytes as the longest unit has. Words are written as by `tuz_read_unit`; where there is no unit, none is.
+// One step of the walk from a place on, with nothing read: the unit's bytes are for `tuz_head`.
+#[no_mangle]
+pub extern "C" fn tuz_next_unit(recording: &[u8], from: usize) -> StepOut
+    ensures { λ r. ⌜ r ≡ came (nextStep (now (recording .entry)) from) ⌝ }
+{
+    come(next_step(recording, from))
+}
+
+// One step of the walk from a place on, by the sets in a table's two arrays. Scratch needs as many bytes as the longest unit has. Words are written as by `tuz_body`; where there is no unit, none is.
 #[no_mangle]
 pub extern "C" fn tuz_walk<'a>(
     sequences: &'a [u32; 224],

@@ -33,7 +33,7 @@ fn wrote_out(a: HeaderWrote) -> WroteOut
     }
 }
 
-// The header that words hold, as `tuz_read_unit` lays them down, written by the sets in a table's two arrays, for the unit that the first byte and the extension
+// The header that words hold, as `tuz_body` lays them down, written by the sets in a table's two arrays, for the unit that the first byte and the extension
 // tell of. A refusal leaves the buffer as it was. Words behind a list's count are not looked at.
 #[no_mangle]
 pub extern "C" fn tuz_write_header<'a>(

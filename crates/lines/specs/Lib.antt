@@ -1,3 +1,4 @@
 pub mod Level
 pub mod Text
 pub mod Lines
+pub mod Kinds

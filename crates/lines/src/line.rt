@@ -57,7 +57,7 @@ fn bit_words(d: &mut [u8; 128], at: usize, has_bit: bool, bit: usize) -> usize
 }
 
 // The longest of the lines: 9 bytes and 3 digits, 7 bytes, a sign and 19 digits, 5 bytes and 20 digits end at byte 123.
-fn refused_words(d: &mut [u8; 128], at: usize, r: Refusal) -> usize
+pub(crate) fn refused_words(d: &mut [u8; 128], at: usize, r: Refusal) -> usize
     requires { ⌜ at ≤ 59 ⌝ }
     ensures { λ e. ⌜ Put (now (d .entry)) at (refusedText r) e (now (d .exit)) × (e ≤ 127) ⌝ }
 {

@@ -19,11 +19,11 @@ struct Defaults {
 }
 
 // A set that the table does not have counts as zeros.
-fn default_counts(pictures: &[u32; 2048], id: u32) -> Defaults
+fn default_counts(pictures: &[u32; 2304], id: u32) -> Defaults
     ensures { λ r. ⌜ (r .l0 ≡ pictureIn (tables.pictureIn (now (pictures .entry)) id) .«num_ref_idx_l0_default_active_minus1») × (r .l1 ≡ pictureIn (tables.pictureIn (now (pictures .entry)) id) .«num_ref_idx_l1_default_active_minus1») ⌝ }
 {
     match picture_in(pictures, id) {
-        FoundPicture::There(p) => Defaults {
+        FoundPicture::There(p, _) => Defaults {
             l0: p.num_ref_idx_l0_default_active_minus1,
             l1: p.num_ref_idx_l1_default_active_minus1,
         },
@@ -50,7 +50,7 @@ fn most_bits(m0: u32, m1: u32, d: u32, n0: u32, n1: u32) -> usize
 }
 
 // The most bits of the header that words hold, by the table's array of picture sets. Its numbers are all that it takes.
-pub fn header_bound(pictures: &[u32; 2048], numbers: &[u32; 57]) -> usize
+pub fn header_bound(pictures: &[u32; 2304], numbers: &[u32; 57]) -> usize
     ensures { λ r. ⌜ r ≡ boundIn (now (pictures .entry)) (now (numbers .entry)) ⌝ }
 {
     let p = default_counts(pictures, numbers[2]);

@@ -1,5 +1,6 @@
 // The units. A refusal's value is told by the word that stands beside the value it must have.
 use super::show::shown;
+use super::show::shown_for;
 
 fn active_counts() {
     shown(b"active minus1 31", b"\x01\x9a\xb0\x40\xff\xc0", 0, b"0");
@@ -110,6 +111,42 @@ fn prefixes() {
     );
 }
 
+// A head is the answer where it is refused. Else a body is read for its own head alone: not for that of another type, of another nal_ref_idc, with another extension; and
+// not where the unit has none.
+fn heads() {
+    shown(b"a first byte over 127", b"\x81", 0, b"0");
+    shown(b"an extension of one byte", b"\x6e\x80", 0, b"0");
+    shown_for(
+        b"a head of another type",
+        b"\x05",
+        b"\x01\x9a\xa0\x32\xff\x80",
+        0,
+        b"0",
+    );
+    shown_for(
+        b"a head of another nal_ref_idc",
+        b"\x21",
+        b"\x01\x9a\xa0\x32\xff\x80",
+        0,
+        b"0",
+    );
+    shown_for(
+        b"a head with another extension",
+        b"\x6e\x80\x00\x17",
+        b"\x6e\x80\x00\x07\xbf\xf0",
+        0,
+        b"0",
+    );
+    shown_for(b"a head for a unit without one", b"\x01", b"\x81", 0, b"0");
+    shown_for(
+        b"its own head",
+        b"\x01",
+        b"\x01\x9a\xa0\x32\xff\x80",
+        0,
+        b"0",
+    );
+}
+
 pub(crate) fn all() {
     active_counts();
     levels();
@@ -117,4 +154,5 @@ pub(crate) fn all() {
     lists();
     views();
     prefixes();
+    heads();
 }

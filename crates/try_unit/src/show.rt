@@ -11,7 +11,10 @@ use table::table::empty;
 use table::table::with_picture;
 use table::table::with_sequence;
 use unit::answer::UnitAnswer;
-use unit::unit::read_unit_in;
+use unit::head::HeadRead;
+use unit::head::UnitHead;
+use unit::head::head;
+use unit::unit::read_body_in;
 
 fn text(t: &[u8]) {
     io::write_all(STDOUT_FILENO, t);
@@ -63,14 +66,28 @@ fn sample_table() -> Table {
     c.table
 }
 
+// The head is that of `bytes`.
 pub(crate) fn shown(name: &[u8], bytes: &[u8], value: i64, said: &[u8]) {
+    shown_for(name, bytes, bytes, value, said);
+}
+
+// The body of `bytes`, read for the head of `other`.
+pub(crate) fn shown_for(name: &[u8], other: &[u8], bytes: &[u8], value: i64, said: &[u8]) {
+    text(name);
+    match head(other) {
+        HeadRead::Got(h) => body(h, bytes, value, said),
+        HeadRead::Refused(x) => refused(x, value, said),
+    }
+    text(b"\n");
+}
+
+fn body(head: UnitHead, bytes: &[u8], value: i64, said: &[u8]) {
     let t = sample_table();
     let mut scratch = [0u8; 128];
-    let r = read_unit_in(&t.sequences, &t.pictures, bytes, &mut scratch);
+    let r = read_body_in(head, &t.sequences, &t.pictures, bytes, &mut scratch);
     let answer = r.answer;
     let h = r.header;
     let p = r.prefix;
-    text(name);
     match answer {
         UnitAnswer::Slice(n) => {
             text(b": slice bits=");
@@ -79,18 +96,19 @@ pub(crate) fn shown(name: &[u8], bytes: &[u8], value: i64, said: &[u8]) {
         }
         UnitAnswer::Prefix => prefix(p),
         UnitAnswer::Other(_) => text(b": other"),
-        UnitAnswer::Refused(x) => {
-            field(b": refused ", x.number as u32);
-            text(b" value=");
-            if x.value == value {
-                text(said);
-            } else {
-                text(b"other");
-            }
-            place(x);
-        }
+        UnitAnswer::Refused(x) => refused(x, value, said),
     }
-    text(b"\n");
+}
+
+fn refused(x: Refusal, value: i64, said: &[u8]) {
+    field(b": refused ", x.number as u32);
+    text(b" value=");
+    if x.value == value {
+        text(said);
+    } else {
+        text(b"other");
+    }
+    place(x);
 }
 
 // The place of a refusal, if it has one.

@@ -4,8 +4,10 @@ use super::same;
 use super::show;
 use bits::put::put_bits;
 use bits::read::Cursor;
+use unit::head::HeadRead;
+use unit::head::head;
 use unit::into::ShortAnswer;
-use unit::into::read_unit_into;
+use unit::into::read_body_into;
 use writer::given::ExtensionGiven;
 use writer::write::HeaderWrote;
 use writer::write::write_words_in;
@@ -97,6 +99,41 @@ fn told(answer: ShortAnswer, bits: usize, is_same: bool) {
     }
 }
 
+// A unit's head, and then its body.
+fn read_in_turn<'a>(
+    sequences: &'a [u32; 224],
+    pictures: &'a [u32; 2304],
+    u: &[u8],
+    scratch: &mut [u8],
+    numbers: &mut [u32; 57],
+    signed: &mut [i32; 7],
+    l0: &mut [u32; 198],
+    l1: &mut [u32; 198],
+    marking: &mut [u32; 198],
+    w0: &mut [i32; 256],
+    w1: &mut [i32; 256],
+    base: &mut [u32; 198],
+) -> ShortAnswer {
+    match head(u) {
+        HeadRead::Got(h) => read_body_into(
+            h,
+            sequences,
+            pictures,
+            u,
+            scratch,
+            numbers,
+            signed,
+            l0,
+            l1,
+            marking,
+            w0,
+            w1,
+            base,
+        ),
+        HeadRead::Refused(r) => ShortAnswer::Refused(r),
+    }
+}
+
 // The first n bytes read as a unit, and its record compared.
 fn read_part<'a>(
     sequences: &'a [u32; 224],
@@ -122,7 +159,7 @@ fn read_part<'a>(
         let mut v0 = [0i32; 256];
         let mut v1 = [0i32; 256];
         let mut base = [0u32; 198];
-        let answer = read_unit_into(
+        let answer = read_in_turn(
             sequences,
             pictures,
             &u[..n],

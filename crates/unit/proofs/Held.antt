@@ -1,9 +1,8 @@
 -- A unit read into lent words: each body's answer and what it leaves in the words, and the words cleared after a refusal.
 use Prim.Native.Nat.{ℕ}
-use mathlib.Core.Path.{_≡_, refl, ap, _∙_}
+use mathlib.Core.Path.{_≡_, refl, sym, ap, _∙_}
 use mathlib.Core.List.{List}
 use native.Mathlib.Omega.{arith}
-use lib.ListN.{replicate}
 use Rattle.bits.specs.Bits.{Bits}
 use Rattle.bits.specs.Refusals.{Res, got, no}
 use Rattle.bits.specs.declared.refusals.Refusal.{Refusal}
@@ -25,7 +24,7 @@ use Rattle.unit.specs.declared.answer.UnitRead.{UnitRead}
 use Rattle.unit.specs.declared.into.ShortAnswer.{ShortAnswer}
 use Rattle.unit.specs.Answer.{only, sliceAnswer, prefixAnswer}
 use Rattle.unit.specs.Unit.{UnitOut, untouched, sliceBits, prefixBits}
-use Rattle.unit.specs.Into.{short, shortAnswer, Lent, after, wordsAfter, ReadInto, sliceShort, bodyShort, Held, Taken}
+use Rattle.unit.specs.Into.{short, shortAnswer, Lent, blank, after, wordsAfter, ReadInto, sliceShort, bodyShort, Held, Taken}
 
 -- ---- the body of a slice
 
@@ -73,7 +72,7 @@ module _ {o : UnitOut} {left : List ℕ} where
 
 -- ---- what the public function says
 
-refused-words : (a : UnitAnswer) (u : UnitRead) {r : Refusal} → ShortAnswer.Refused r ≡ short a u → (b : Lent) → after a u b ≡ record { header = zeros; base = replicate 198 0 }
+refused-words : (a : UnitAnswer) (u : UnitRead) {r : Refusal} → ShortAnswer.Refused r ≡ short a u → (b : Lent) → after a u b ≡ blank
 refused-words (UnitAnswer.Slice n) u e b = let z : _≡_ {A = ℕ} 0 1 = cc in absurd (omega arith)
 refused-words UnitAnswer.«Prefix» u e b = let z : _≡_ {A = ℕ} 0 1 = cc in absurd (omega arith)
 refused-words (UnitAnswer.Other t) u e b = let z : _≡_ {A = ℕ} 0 1 = cc in absurd (omega arith)
@@ -89,9 +88,14 @@ module _ {o : UnitOut} {a : ShortAnswer} {scratch : List ℕ} {b w : Lent} (t : 
   pub kept-other : (n : ℕ) → a ≡ ShortAnswer.Other n → ReadInto o (ShortAnswer.Other n) scratch b w
   kept-other n e = let k = rw e at t in record { answered = k .answered; left = k .left; words = k .held }
 
-  pub cleared : (r : Refusal) → a ≡ ShortAnswer.Refused r → {h : HeaderWords} {l : List ℕ} → h ≡ zeros → l ≡ replicate 198 0
-      → ReadInto o (ShortAnswer.Refused r) scratch b (record { header = h; base = l })
+  pub cleared : (r : Refusal) → a ≡ ShortAnswer.Refused r → {l : Lent} → l ≡ blank → ReadInto o (ShortAnswer.Refused r) scratch b l
   unfolding shortAnswer wordsAfter
-  cleared r e p q =
+  cleared r e p =
       let k = rw e at t in
-      record { answered = k .answered; left = k .left; words = rw (p, q, refused-words (o .read .answer) (o .read) (k .answered) b) }
+      record { answered = k .answered; left = k .left; words = p ∙ sym (refused-words (o .read .answer) (o .read) (k .answered) b) }
+
+-- a refusal before the body
+pub refused-into : {o : UnitOut} {r : Refusal} {scratch : List ℕ} → o ≡ untouched (UnitAnswer.Refused r) scratch → (b : Lent) {l : Lent} → l ≡ blank
+    → ReadInto o (ShortAnswer.Refused r) scratch b l
+unfolding shortAnswer wordsAfter only
+refused-into e b p = rw e (record { answered = refl; left = refl; words = p })

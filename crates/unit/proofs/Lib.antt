@@ -5,3 +5,4 @@ pub mod Rooms
 pub mod Held
 pub mod Tidy
 pub mod Whole
+pub mod Pair

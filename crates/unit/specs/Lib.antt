@@ -1,4 +1,5 @@
 pub mod Answer
 pub mod Begin
 pub mod Unit
+pub mod Head
 pub mod Into

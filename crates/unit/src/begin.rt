@@ -57,7 +57,7 @@ fn prefix_kind(h: NalHeader, e: NalHeaderExtension) -> PrefixKind
 }
 
 // Types 14, 20 and 21.
-fn has_extension(t: u8) -> bool
+pub fn has_extension(t: u8) -> bool
     ensures { λ r. ⌜ r ≡ hasExtension t ⌝ }
 {
     either(t == 14, either(t == 20, t == 21))

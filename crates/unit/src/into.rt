@@ -1,8 +1,12 @@
-// A whole unit read into words that the caller lends: the answer holds neither fields nor lists of a header, so no record is copied on its way to the caller.
+// A unit's body read into words that the caller lends: the answer holds neither fields nor lists of a header, so no record is copied on its way to the caller.
 use crate::begin::Begun;
 use crate::begin::begin;
+use crate::head::UnitHead;
+use crate::head::is_head_of;
 use bits::read::Cursor;
+use bits::refusals::NOT_ITS_HEAD;
 use bits::refusals::Refusal;
+use bits::refusals::refuse;
 use escape::escape::Body;
 use escape::escape::unescape;
 use fields::step::End;
@@ -21,8 +25,9 @@ ghost use lib.ListN.{length};
 ghost use Rattle.bits.specs.Refusals.{limit};
 ghost use Rattle.header.specs.Lead.{tableOf};
 ghost use Rattle.unit.specs.Unit.{inBody, sliceBits, prefixBits, unitRead};
+ghost use Rattle.unit.specs.Head.{bodyRead};
 ghost use Rattle.header.specs.Short.{HeaderWords, headerWords};
-ghost use Rattle.unit.specs.Into.{lentWords, sliceShort, bodyShort, Taken, ReadInto};
+ghost use Rattle.unit.specs.Into.{lentWords, blank, sliceShort, bodyShort, Taken, ReadInto};
 
 pub enum ShortAnswer {
     // a slice header, of so many bits, which stands in the words
@@ -143,11 +148,25 @@ fn take<'a>(
     }
 }
 
-// A unit read by the sets in a table's two arrays. Until the body is known to fit, scratch is untouched; after that it starts with the body, whatever the answer. A
-// slice's header goes to the words of its fields and lists, over
-// zeros where the counts said that a list was, and a prefix unit's list to `base`, over zeros; all other words stay as they were. Beside a refusal all words are
-// zeros.
-pub fn read_unit_into<'a>(
+// All words become zeros, as beside a refusal.
+pub fn clear_words(
+    numbers: &mut [u32; 57],
+    signed: &mut [i32; 7],
+    l0: &mut [u32; 198],
+    l1: &mut [u32; 198],
+    marking: &mut [u32; 198],
+    w0: &mut [i32; 256],
+    w1: &mut [i32; 256],
+    base: &mut [u32; 198],
+)
+    ensures { λ _. ⌜ lentWords numbers signed l0 l1 marking w0 w1 base .exit ≡ blank ⌝ }
+{
+    clear_header(numbers, signed, l0, l1, marking, w0, w1);
+    clear_list(base);
+}
+
+// A unit whose head has been compared.
+fn read_into<'a>(
     sequences: &'a [u32; 224],
     pictures: &'a [u32; 2304],
     unit: &[u8],
@@ -181,9 +200,49 @@ pub fn read_unit_into<'a>(
         ShortAnswer::Prefix(p) => ShortAnswer::Prefix(p),
         ShortAnswer::Other(id) => ShortAnswer::Other(id),
         ShortAnswer::Refused(r) => {
-            clear_header(numbers, signed, l0, l1, marking, w0, w1);
-            clear_list(base);
+            clear_words(numbers, signed, l0, l1, marking, w0, w1, base);
             ShortAnswer::Refused(r)
         }
     }
+}
+
+// The body of a unit, for whoever has its head (`head::head`); another's head is 34, before all else. It is read by the sets in a table's two arrays. Until the body
+// is known to fit, scratch is untouched; after that it starts with the body, whatever the answer. A slice's header goes to the words of its fields and lists, over
+// zeros where the counts said that a list was, and a prefix unit's list to `base`, over zeros; all other words stay as they were. Beside a refusal all words are
+// zeros.
+pub fn read_body_into<'a>(
+    head: UnitHead,
+    sequences: &'a [u32; 224],
+    pictures: &'a [u32; 2304],
+    unit: &[u8],
+    scratch: &mut [u8],
+    numbers: &mut [u32; 57],
+    signed: &mut [i32; 7],
+    l0: &mut [u32; 198],
+    l1: &mut [u32; 198],
+    marking: &mut [u32; 198],
+    w0: &mut [i32; 256],
+    w1: &mut [i32; 256],
+    base: &mut [u32; 198],
+) -> ShortAnswer
+    ensures { λ r. ⌜ ReadInto (bodyRead (tableOf (now (sequences .entry)) (now (pictures .entry))) head (now (unit .entry)) (now (scratch .entry))) r (now (scratch .exit)) (lentWords numbers signed l0 l1 marking w0 w1 base .entry) (lentWords numbers signed l0 l1 marking w0 w1 base .exit) ⌝ }
+{
+    if !is_head_of(head, unit) {
+        clear_words(numbers, signed, l0, l1, marking, w0, w1, base);
+        return ShortAnswer::Refused(refuse(NOT_ITS_HEAD, 0));
+    }
+    read_into(
+        sequences,
+        pictures,
+        unit,
+        scratch,
+        numbers,
+        signed,
+        l0,
+        l1,
+        marking,
+        w0,
+        w1,
+        base,
+    )
 }

@@ -5,12 +5,16 @@ use bits::refusals::LIMIT;
 use bits::refusals::Refusal;
 use bits::refusals::TOO_LARGE;
 use bits::refusals::refuse;
+use unit::head::HeadRead;
+use unit::head::head;
 use unit::into::ShortAnswer;
-use unit::into::read_unit_into;
+use unit::into::clear_words;
+use unit::into::read_body_into;
 ghost use mathlib.Core.Path.{_≡_};
 ghost use Rattle.header.specs.Lead.{tableOf};
 ghost use Rattle.walk.specs.Walked.{nextStep, walked};
-ghost use Rattle.unit.specs.Into.{lentWords};
+ghost use Rattle.unit.specs.Unit.{unitRead};
+ghost use Rattle.unit.specs.Into.{lentWords, ReadInto};
 ghost use Rattle.walk.specs.WalkedInto.{WalkedInto};
 
 // What the walk came to: a unit's place, its length and the place to go on from; the end; or refusal 27.
@@ -43,7 +47,47 @@ pub fn next_step(recording: &[u8], from: usize) -> Step
     }
 }
 
-// One step, by the sets in a table's two arrays. Scratch and words are left as `read_unit_into` leaves them; where the step comes to no unit, all are untouched.
+// A unit's head and then its body. Scratch and words are left as `read_body_into` leaves them; beside a refused head scratch is untouched, and all words are zeros.
+fn in_turn<'a>(
+    sequences: &'a [u32; 224],
+    pictures: &'a [u32; 2304],
+    unit: &[u8],
+    scratch: &mut [u8],
+    numbers: &mut [u32; 57],
+    signed: &mut [i32; 7],
+    l0: &mut [u32; 198],
+    l1: &mut [u32; 198],
+    marking: &mut [u32; 198],
+    w0: &mut [i32; 256],
+    w1: &mut [i32; 256],
+    base: &mut [u32; 198],
+) -> ShortAnswer
+    ensures { λ r. ⌜ ReadInto (unitRead (tableOf (now (sequences .entry)) (now (pictures .entry))) (now (unit .entry)) (now (scratch .entry))) r (now (scratch .exit)) (lentWords numbers signed l0 l1 marking w0 w1 base .entry) (lentWords numbers signed l0 l1 marking w0 w1 base .exit) ⌝ }
+{
+    match head(unit) {
+        HeadRead::Got(h) => read_body_into(
+            h,
+            sequences,
+            pictures,
+            unit,
+            scratch,
+            numbers,
+            signed,
+            l0,
+            l1,
+            marking,
+            w0,
+            w1,
+            base,
+        ),
+        HeadRead::Refused(r) => {
+            clear_words(numbers, signed, l0, l1, marking, w0, w1, base);
+            ShortAnswer::Refused(r)
+        }
+    }
+}
+
+// One step, by the sets in a table's two arrays. Scratch and words are left as `in_turn` leaves them; where the step comes to no unit, all are untouched.
 pub fn walk_into<'a>(
     sequences: &'a [u32; 224],
     pictures: &'a [u32; 2304],
@@ -69,7 +113,7 @@ pub fn walk_into<'a>(
         };
     };
     let end = place + length;
-    let answer = read_unit_into(
+    let answer = in_turn(
         sequences,
         pictures,
         &recording[place..end],

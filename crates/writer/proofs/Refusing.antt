@@ -184,7 +184,7 @@ module _ (t : Table) (h : SliceHeader) (out : List ℕ) where
   bits-long false k = none-long k
 
   sets-long : (ok : Bool) (k : UnitKind) (f : SetsFor) → SetsFine f → Long (afterSets ok t k h out f .answer)
-  sets-long ok k (SetsFor.There p s) g = bits-long ok k
+  sets-long ok k (SetsFor.There p w s) g = bits-long ok k
   sets-long ok k (SetsFor.Refused r) g = λ e. not-26 r (8 ∷ 9 ∷ 10 ∷ []) (g .0) e refl
 
   kind-long : (ok : Bool) (f : KindGiven) → KindFine f → Long (afterKind ok t h out f .answer)

@@ -1,6 +1,6 @@
-//! `import tuzmarghil`: the units of a recording as plain objects, and QP as an array.
+//! `import tuzmarghil`: the units of a recording as plain objects, their kinds alone, and QP as an array.
 
-use ::tuzmarghil::{container, Stream, StreamReport, Table, Unit};
+use ::tuzmarghil::{container, NalHeaderExtension, Stream, StreamHead, StreamReport, Table, Unit};
 use pyo3::exceptions::{PyOSError, PyValueError};
 use pyo3::prelude::*;
 use pyo3::types::PyBytes;
@@ -127,27 +127,128 @@ fn report(table: &Table, r: &StreamReport<'_>) -> Report {
     }
 }
 
+/// What a unit's first bytes say, without its body. What it does not have is None.
+#[pyclass(frozen, module = "tuzmarghil")]
+#[derive(Default)]
+struct Kind {
+    /// Where the unit begins, after its start code.
+    #[pyo3(get)]
+    place: u64,
+    /// How many bytes it has.
+    #[pyo3(get)]
+    length: u64,
+    #[pyo3(get)]
+    nal_unit_type: Option<u8>,
+    #[pyo3(get)]
+    nal_ref_idc: Option<u8>,
+    /// 'svc' or 'mvc', of types 14, 20 and 21, and the extension's three bytes in hex.
+    #[pyo3(get)]
+    ext: Option<&'static str>,
+    #[pyo3(get)]
+    ext_bytes: Option<String>,
+    /// The number of a refusal, its value, and why in words.
+    #[pyo3(get)]
+    refusal: Option<u32>,
+    #[pyo3(get)]
+    value: Option<i64>,
+    #[pyo3(get)]
+    why: Option<String>,
+}
+
+#[pymethods]
+impl Kind {
+    fn __repr__(&self) -> String {
+        let Kind { place, length, .. } = self;
+        let more = match (self.nal_unit_type, self.refusal) {
+            (Some(id), _) => format!("type={id}"),
+            (_, number) => format!("refusal={}", number.unwrap_or(0)),
+        };
+        format!("<tuzmarghil.Kind place={place} length={length} {more}>")
+    }
+}
+
+fn kind(unit: &StreamHead<'_>) -> Kind {
+    let plain = Kind {
+        place: unit.place,
+        length: unit.length,
+        ..Kind::default()
+    };
+    match unit.head() {
+        Ok(head) => {
+            let extension = head.extension();
+            let hex = |e: NalHeaderExtension| e.to_bytes().map(|b| format!("{b:02x}")).concat();
+            Kind {
+                nal_unit_type: Some(head.nal_unit_type().id()),
+                nal_ref_idc: Some(head.nal_ref_idc()),
+                ext: extension.map(|e| match e {
+                    NalHeaderExtension::Svc(_) => "svc",
+                    NalHeaderExtension::Mvc(_) => "mvc",
+                }),
+                ext_bytes: extension.map(hex),
+                ..plain
+            }
+        }
+        Err(refusal) => Kind {
+            refusal: Some(refusal.number),
+            value: Some(refusal.value),
+            why: Some(refusal.reason()),
+            ..plain
+        },
+    }
+}
+
+/// A recording's file, its front looked at.
+type Recording = Stream<Chain<Cursor<Vec<u8>>, File>>;
+
+/// The recording, and its name for messages.
+fn open(path: &Path) -> PyResult<(Recording, String)> {
+    let name = path.display().to_string();
+    let failed = |e| PyOSError::new_err(format!("{name}: {e}"));
+    let mut file = File::open(path).map_err(failed)?;
+    let mut front = Vec::new();
+    let look = file.by_ref().take(4096).read_to_end(&mut front);
+    let whole = look.map_err(failed)? < 4096;
+    if let Some(told) = container(&front, whole) {
+        return Err(PyValueError::new_err(format!("{name}: {told}")));
+    }
+    Ok((Stream::new(Cursor::new(front).chain(file)), name))
+}
+
+/// The kinds of a recording's units, one after the other.
+#[pyclass(module = "tuzmarghil")]
+struct Kinds {
+    stream: Recording,
+    name: String,
+}
+
+#[pymethods]
+impl Kinds {
+    fn __iter__(slf: PyRef<'_, Self>) -> PyRef<'_, Self> {
+        slf
+    }
+
+    fn __next__(&mut self, py: Python<'_>) -> PyResult<Option<Kind>> {
+        py.check_signals()?;
+        let name = &self.name;
+        let step = self.stream.next_head();
+        let step = step.map_err(|e| PyOSError::new_err(format!("{name}: {e}")))?;
+        Ok(step.map(|unit| kind(&unit)))
+    }
+}
+
 /// The reports of a recording, one after the other.
 #[pyclass(module = "tuzmarghil")]
 struct Reports {
-    stream: Stream<Chain<Cursor<Vec<u8>>, File>>,
+    stream: Recording,
     table: Table,
     name: String,
 }
 
 impl Reports {
     fn open(path: &Path, table: Option<&str>) -> PyResult<Reports> {
-        let name = path.display().to_string();
-        let failed = |e| PyOSError::new_err(format!("{name}: {e}"));
-        let mut file = File::open(path).map_err(failed)?;
-        let mut front = Vec::new();
-        let look = file.by_ref().take(4096).read_to_end(&mut front);
-        let whole = look.map_err(failed)? < 4096;
-        if let Some(told) = container(&front, whole) {
-            return Err(PyValueError::new_err(format!("{name}: {told}")));
-        }
+        let (stream, name) = open(path)?;
         Ok(Reports {
-            stream: Stream::new(Cursor::new(front).chain(file)),
+            stream,
             table: table_of(table)?,
             name,
         })
@@ -200,6 +301,13 @@ fn reports(path: PathBuf, table: Option<&str>) -> PyResult<Reports> {
     Reports::open(&path, table)
 }
 
+/// The kinds of a recording's units, as an iterator of plain objects: what their first bytes say. No table is needed, and bodies are not read.
+#[pyfunction]
+fn kinds(path: PathBuf) -> PyResult<Kinds> {
+    let (stream, name) = open(&path)?;
+    Ok(Kinds { stream, name })
+}
+
 /// The final QP of each slice, and NaN for each refused unit, in their order: an array.array of doubles, which numpy.asarray takes without a copy.
 #[pyfunction]
 fn qp(py: Python<'_>, path: PathBuf, table: Option<&str>) -> PyResult<PyObject> {
@@ -230,6 +338,9 @@ fn tuzmarghil(_: Python<'_>, module: &PyModule) -> PyResult<()> {
     module.add("SAMPLE", SAMPLE)?;
     module.add_class::<Report>()?;
     module.add_class::<Reports>()?;
+    module.add_class::<Kind>()?;
+    module.add_class::<Kinds>()?;
     module.add_function(wrap_pyfunction!(reports, module)?)?;
+    module.add_function(wrap_pyfunction!(kinds, module)?)?;
     module.add_function(wrap_pyfunction!(qp, module)?)
 }

@@ -2,7 +2,7 @@
 
 use tuzmarghil::raw::{self, ReadOut, Weight, Weights, Words};
 use tuzmarghil::raw::{HeaderShort, List, MarkedFlag, MarkedNumber, MarkedSigned, PrefixShort};
-use tuzmarghil::{NalHeaderExtension, Refusal, Table};
+use tuzmarghil::{NalHeaderExtension, Refusal, Table, UnitHead};
 
 /// The names of slice types, modulo 5.
 pub const FAMILIES: [&str; 5] = ["P", "B", "I", "SP", "SI"];
@@ -13,6 +13,8 @@ pub enum Value<'a> {
     Number(i64),
     Flag(bool),
     Word(&'static str),
+    /// two digits each
+    Bytes([u8; 3]),
     /// in words
     Why(Refusal),
     Pair([i32; 2]),
@@ -138,6 +140,17 @@ pub const QP: [&str; 8] = [
     "qp",
 ];
 
+/// Those of `tuz kinds`, which has one of its own: the extension's three bytes.
+pub const KINDS: [&str; 7] = [
+    "type",
+    "refusal",
+    "value",
+    "why",
+    "nal_ref_idc",
+    "ext",
+    "ext_bytes",
+];
+
 /// What `tuz list` and `tuz qp` tell of a slice.
 #[derive(Clone, Copy, Default)]
 pub struct Slice {
@@ -209,6 +222,27 @@ pub fn brief(unit: &[u8], out: &ReadOut, slice: &Slice, form: &mut impl Form) {
             to.put("ext", Value::Word(if svc { "svc" } else { "mvc" }));
         }
         _ => to.refused(out),
+    }
+}
+
+/// A unit's head.
+pub fn head(head: Result<UnitHead, Refusal>, form: &mut impl Form) {
+    let mut to = Fields(form);
+    match head {
+        Ok(head) => {
+            to.0.kind("head");
+            to.number("type", head.nal_unit_type().id());
+            to.number("nal_ref_idc", head.nal_ref_idc());
+            if let Some(extension) = head.extension() {
+                let svc = matches!(extension, NalHeaderExtension::Svc(_));
+                to.put("ext", Value::Word(if svc { "svc" } else { "mvc" }));
+                to.put("ext_bytes", Value::Bytes(extension.to_bytes()));
+            }
+        }
+        Err(why) => {
+            to.0.kind("refused");
+            to.0.refusal(why);
+        }
     }
 }
 
@@ -410,6 +444,7 @@ impl Value<'_> {
             Value::Number(n) => number(to, n),
             Value::Flag(b) => to.push(b'0' + u8::from(b)),
             Value::Word(w) => to.extend_from_slice(w.as_bytes()),
+            Value::Bytes(bytes) => to.extend(bytes.into_iter().flat_map(hex)),
             Value::Why(why) => to.extend_from_slice(why.reason().as_bytes()),
             Value::Pair(pair) => colons(to, &pair),
             Value::List(list, operands) => {
@@ -448,6 +483,11 @@ impl Value<'_> {
             Value::Number(n) => number(to, n),
             Value::Flag(b) => to.extend_from_slice(if b { b"true" } else { b"false" }),
             Value::Word(w) => quoted(to, w),
+            Value::Bytes(bytes) => {
+                to.push(b'"');
+                to.extend(bytes.into_iter().flat_map(hex));
+                to.push(b'"');
+            }
             Value::Why(why) => quoted(to, &why.reason()),
             Value::Pair(pair) => array(to, &pair),
             Value::List(list, operands) => {
@@ -476,6 +516,11 @@ impl Value<'_> {
             }
         }
     }
+}
+
+/// A byte's two digits.
+fn hex(byte: u8) -> [u8; 2] {
+    [byte >> 4, byte & 15].map(|n| b"0123456789abcdef"[usize::from(n)])
 }
 
 /// Weight and offset; nothing where the flag is clear.
@@ -626,7 +671,7 @@ mod tests {
             brief(&unit, &out, &Slice::default(), &mut order);
         }
         assert!(NAMES.iter().all(|n| order.1.contains(n)));
-        for few in [&LIST[..], &QP] {
+        for few in [&LIST[..], &QP, &KINDS[..6]] {
             let mut places = few.iter().map(|n| NAMES.iter().position(|m| m == n));
             let mut last = None;
             assert!(places.all(|at| std::mem::replace(&mut last, at) < at));

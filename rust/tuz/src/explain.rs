@@ -8,7 +8,7 @@ struct Refused(u32, &'static str, &'static str, &'static str);
 
 const TORN: &str = "the unit is damaged";
 
-const REFUSALS: [Refused; 27] = [
+const REFUSALS: [Refused; 28] = [
     Refused(
         1,
         "the unit has no byte",
@@ -156,6 +156,12 @@ const REFUSALS: [Refused; 27] = [
         "0",
         "start codes are missing, or this is no H.264",
     ),
+    Refused(
+        34,
+        "the head is not the unit's own",
+        "0",
+        "only a program that calls the library can meet it",
+    ),
 ];
 
 /// What the bit place beside a unit's refusal is.
@@ -180,7 +186,7 @@ pub fn told(number: Option<u32>) -> Result<String> {
             }
         }
         Some(number) => match REFUSALS.iter().find(|r| r.0 == number) {
-            None => bail!("{number} is no refusal: they are 1 to {}", REFUSALS.len()),
+            None => bail!("{number} is no refusal: they are 1 to 27 and 34"),
             Some(Refused(n, why, value, often)) => {
                 let bit = place(*n);
                 let _ = write!(
@@ -201,11 +207,12 @@ mod tests {
     /// The numbers are all there, and the library has words for no other.
     #[test]
     fn every_number_is_explained() {
-        for (refused, n) in REFUSALS.iter().zip(1..) {
-            assert_eq!(refused.0, n);
-            assert_ne!(Refusal::new(n, 7).reason(), "value 7");
+        let numbers: Vec<_> = REFUSALS.iter().map(|r| r.0).collect();
+        assert_eq!(numbers, (1..=27).chain([34]).collect::<Vec<_>>());
+        for n in 0..256 {
+            let explained = Refusal::new(n, 7).reason() != "value 7";
+            assert_eq!(numbers.contains(&n), explained, "{n}");
+            assert_eq!(told(Some(n)).is_ok(), explained, "{n}");
         }
-        assert_eq!(Refusal::new(28, 7).reason(), "value 7");
-        assert!(told(Some(28)).is_err() && told(Some(0)).is_err());
     }
 }

@@ -9,7 +9,7 @@ use std::fs::{self, File};
 use std::io::{self, BufRead, BufReader, Cursor, ErrorKind, Read};
 use std::path::{Path, PathBuf};
 use tuzmarghil::{container, container_needs, CONTAINER_LOOK};
-use tuzmarghil::{Stream, StreamReport, Table, LIMIT};
+use tuzmarghil::{Stream, Table, LIMIT};
 
 /// The sample sets of the rules, both with id 0.
 const SAMPLE: &str = "sps:0:1:0:0:4:2:0:0:1:99 pps:0:0:0:0:0:0:0:0:0:0:0:0:0";
@@ -39,9 +39,31 @@ pub struct Clip {
     force: bool,
 }
 
+/// A recording alone.
+#[derive(Args)]
+pub struct Bare {
+    /// The recording, with start codes; `-` is standard input
+    clip: PathBuf,
+    /// Read it as a byte stream whatever it looks like
+    #[arg(long)]
+    force: bool,
+}
+
+impl From<&Bare> for Clip {
+    fn from(bare: &Bare) -> Clip {
+        Clip {
+            clip: bare.clip.clone(),
+            table: None,
+            sample: false,
+            force: bare.force,
+        }
+    }
+}
+
 /// What is done with each unit.
 pub trait Each {
-    fn unit(&mut self, report: &StreamReport<'_>) -> Result<()>;
+    /// Takes the next unit, if it has come whole.
+    fn unit(&mut self, stream: &mut Stream<Recording>) -> Result<bool>;
     /// More must be read: whoever waits gets the lines that are there.
     fn pause(&mut self) -> Result<()>;
     /// Whether anything is left to be done.
@@ -132,7 +154,7 @@ pub struct Recording {
 
 impl Recording {
     /// Hands each unit to `each`, with a bar on a terminal where the recording is long and the lines go elsewhere. Gives its length in bytes.
-    pub fn units(self, table: &Table, quiet: bool, each: &mut impl Each) -> Result<u64> {
+    pub fn units(self, quiet: bool, each: &mut impl Each) -> Result<u64> {
         let bar = match self.length {
             0..=LONG => ProgressBar::hidden(),
             // the lines themselves show it
@@ -146,8 +168,7 @@ impl Recording {
         let mut stream = Stream::new(self);
         while each.wanted() {
             stop::check()?;
-            if let Some(report) = stream.next_at_hand(table) {
-                each.unit(&report)?;
+            if each.unit(&mut stream)? {
                 continue;
             }
             each.pause()?;

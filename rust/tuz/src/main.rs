@@ -5,6 +5,7 @@ mod cases;
 mod explain;
 mod form;
 mod input;
+mod kinds;
 mod manual;
 mod output;
 mod plot;
@@ -19,7 +20,7 @@ use anyhow::{Context, Result};
 use clap::{CommandFactory, FromArgMatches, Parser, Subcommand};
 use clap_complete::Shell;
 use form::Format;
-use input::Clip;
+use input::{Bare, Clip};
 use output::{Input, Output, Stdout};
 use std::path::{Path, PathBuf};
 use std::process::ExitCode;
@@ -70,6 +71,15 @@ enum What {
         #[command(flatten)]
         ending: Ending,
     },
+    /// A line for each unit with what its first bytes say: type, nal_ref_idc and extension; no table is needed
+    Kinds {
+        #[command(flatten)]
+        clip: Bare,
+        #[command(flatten)]
+        form: Form,
+        #[command(flatten)]
+        ending: Ending,
+    },
     /// The final QP of each slice, totals by slice type, and a plot
     Qp {
         #[command(flatten)]
@@ -108,7 +118,7 @@ Example:
     },
     /// What a refusal's number means; without a number, all of them
     Explain {
-        /// The number, 1 to 27
+        /// The number, 1 to 27 or 34
         #[arg(value_name = "N")]
         number: Option<u32>,
     },
@@ -158,6 +168,9 @@ fn run(args: &Args, out: &mut Stdout) -> Result<u8> {
         }
         What::Headers { clip, form, ending } => {
             units::run(&asked(Kind::Headers, clip, form, ending), out)
+        }
+        What::Kinds { clip, form, ending } => {
+            kinds::run(&Clip::from(clip), form.format, ending, out)
         }
         What::Qp {
             clip,

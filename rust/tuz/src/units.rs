@@ -2,7 +2,7 @@
 
 use crate::answer::{self, number, Form, Slice, LIST, NAMES, QP};
 use crate::form::{self, Format, Text};
-use crate::input::{Clip, Each};
+use crate::input::{Clip, Each, Recording};
 use crate::output::{Output, Stdout};
 use crate::plot::Course;
 use crate::totals::{Quantisers, Totals};
@@ -10,7 +10,7 @@ use crate::Ending;
 use anyhow::Result;
 use std::path::Path;
 use tuzmarghil::raw::{self, ReadOut};
-use tuzmarghil::{StreamReport, Table};
+use tuzmarghil::{Stream, StreamReport, Table};
 
 /// Which command it is.
 #[derive(Clone, Copy, PartialEq, Eq)]
@@ -53,7 +53,7 @@ pub fn run(asked: &Asked<'_>, out: &mut Stdout) -> Result<u8> {
         plot,
         out,
     };
-    let bytes = recording.units(&table, ending.quiet, &mut units)?;
+    let bytes = recording.units(ending.quiet, &mut units)?;
     if !units.wanted() {
         return Ok(0);
     }
@@ -77,7 +77,27 @@ struct Units<'a> {
 }
 
 impl Each for Units<'_> {
-    fn unit(&mut self, r: &StreamReport<'_>) -> Result<()> {
+    fn unit(&mut self, stream: &mut Stream<Recording>) -> Result<bool> {
+        match stream.next_at_hand(self.table) {
+            None => Ok(false),
+            Some(report) => self.take(&report).map(|()| true),
+        }
+    }
+
+    fn pause(&mut self) -> Result<()> {
+        self.out.flush_lines()
+    }
+
+    /// A closed standard output ends the printing, not the work: files, and what the exit status tells.
+    fn wanted(&self) -> bool {
+        let files = [&self.csv, &self.plot];
+        let mut files = files.into_iter().flatten().filter(|to| !to.is_stdout());
+        !self.out.closed() || self.asked.ending.strict || files.next().is_some()
+    }
+}
+
+impl Units<'_> {
+    fn take(&mut self, r: &StreamReport<'_>) -> Result<()> {
         self.begin()?;
         let (read, words) = r.raw();
         self.totals.take(r);
@@ -97,19 +117,6 @@ impl Each for Units<'_> {
         Ok(())
     }
 
-    fn pause(&mut self) -> Result<()> {
-        self.out.flush_lines()
-    }
-
-    /// A closed standard output ends the printing, not the work: files, and what the exit status tells.
-    fn wanted(&self) -> bool {
-        let files = [&self.csv, &self.plot];
-        let mut files = files.into_iter().flatten().filter(|to| !to.is_stdout());
-        !self.out.closed() || self.asked.ending.strict || files.next().is_some()
-    }
-}
-
-impl Units<'_> {
     /// The columns' names, once there is anything to tell.
     fn begin(&mut self) -> Result<()> {
         if std::mem::replace(&mut self.begun, true) {

@@ -101,11 +101,11 @@ fn a_refusal_is_explained() {
         let told = out(&tuz(&["explain", number], &[]));
         assert!(told.contains(&format!("\nbit: {place}\n")), "{told}");
     }
-    assert_eq!(out(&tuz(&["explain"], &[])).lines().count(), 27);
+    assert_eq!(out(&tuz(&["explain"], &[])).lines().count(), 28);
     let done = tuz(&["explain", "28"], &[]);
     assert_eq!(
         (err(&done).as_str(), done.status.code()),
-        ("tuz: 28 is no refusal: they are 1 to 27\n", Some(2))
+        ("tuz: 28 is no refusal: they are 1 to 27 and 34\n", Some(2))
     );
 }
 
@@ -204,4 +204,75 @@ fn the_manual_has_every_option() {
     let version = out(&tuz(&["--version"], &[]));
     let layout = format!(", layout {})\n", tuzmarghil::LAYOUT);
     assert!(version.starts_with("tuz 0.1.0 (") && version.ends_with(&layout));
+}
+
+/// What the first bytes say, in three forms, without a table; totals and the status as elsewhere.
+#[test]
+fn kinds_in_three_forms() {
+    let clip = [
+        &mixed()[..],
+        &[0, 0, 1, 0x74, 0x40, 0, 1],
+        &[0, 0, 1, 0x6E, 0x80],
+    ]
+    .concat();
+    let done = tuz(&["kinds", "-"], &clip);
+    let told = "\
+unit place=4 length=4 type=5 nal_ref_idc=3
+unit place=11 length=2 type=9 nal_ref_idc=0
+unit place=16 length=6 type=14 nal_ref_idc=3 ext=svc 800007
+unit place=25 length=1 refused 2 value=0
+unit place=29 length=2 type=5 nal_ref_idc=3
+unit place=34 length=4 type=20 nal_ref_idc=3 ext=mvc 400001
+unit place=41 length=2 refused 4 value=0
+end units=7 refused=2
+";
+    assert_eq!(out(&done), told);
+    assert_eq!(
+        err(&done),
+        "standard input: 43 bytes, 22 of them in no unit; 7 units: 2 of type 5, 1 of type 9, 1 of type 14, 1 of type 20, 2 refused\n"
+    );
+    assert_eq!(done.status.code(), Some(0));
+    assert_eq!(
+        tuz(&["kinds", "-", "-q", "--strict"], &clip).status.code(),
+        Some(1)
+    );
+    assert_eq!(
+        tuz(&["kinds", "-", "-q", "--strict"], &CLIP).status.code(),
+        Some(0)
+    );
+
+    let lines = out(&tuz(&["kinds", "-", "-q", "--format", "json"], &clip));
+    let lines: Vec<_> = lines.lines().collect();
+    assert_eq!(lines.len(), 7);
+    assert_eq!(
+        lines[2],
+        r#"{"place":16,"length":6,"answer":"head","type":14,"nal_ref_idc":3,"ext":"svc","ext_bytes":"800007"}"#
+    );
+    assert_eq!(
+        lines[6],
+        r#"{"place":41,"length":2,"answer":"refused","refusal":4,"value":0,"why":"a unit of type 14, 20 or 21 without its three extension bytes"}"#
+    );
+    let rows = out(&tuz(&["kinds", "-", "-q", "--format", "csv"], &clip));
+    let rows: Vec<_> = rows.lines().collect();
+    assert_eq!(
+        [rows[0], rows[1], rows[6], rows[7]],
+        [
+            "place,length,answer,type,refusal,value,why,nal_ref_idc,ext,ext_bytes",
+            "4,4,head,5,,,,3,,",
+            "34,4,head,20,,,,3,mvc,400001",
+            "41,2,refused,,4,0,\"a unit of type 14, 20 or 21 without its three extension bytes\",,,"
+        ]
+    );
+    let nothing = tuz(&["kinds", "-", "-q", "--force"], b"hello");
+    assert_eq!(out(&nothing), "end units=0 refused=0\n");
+    let none = tuz(&["kinds", "-"], b"");
+    assert_eq!(
+        (err(&none).as_str(), none.status.code()),
+        ("tuz: standard input: is empty\n", Some(2))
+    );
+    // it has no table
+    assert_eq!(
+        tuz(&["kinds", "-", "--sample"], &clip).status.code(),
+        Some(2)
+    );
 }

@@ -67,10 +67,10 @@ pub use slice::{
     ModificationOfPicNums, NumRefIdxActive, PicOrderCountLsb, PredWeight, PredWeightTable,
     RefPicListModifications, SliceExclusive, SliceFamily, SliceHeader, SliceType,
 };
-pub use stream::{Stream, StreamReport};
+pub use stream::{Stream, StreamHead, StreamReport};
 pub use table::{Picture, Sequence, Table};
 pub use text::{SetId, WordError};
-pub use unit::{read_unit, Reading, Slice, Unit, UnitReader};
+pub use unit::{read_unit, Reading, Slice, Unit, UnitHead, UnitReader};
 pub use walk::{reports, Report, Reports};
 pub use write::write_header;
 

@@ -110,6 +110,10 @@ impl NalHeader {
         NalHeader(byte)
     }
 
+    pub(crate) fn has_extension(self) -> bool {
+        raw::nal_header(self.0).has_extension
+    }
+
     /// `nal_ref_idc`
     pub fn nal_ref_idc(self) -> u8 {
         raw::nal_header(self.0).nal_ref_idc

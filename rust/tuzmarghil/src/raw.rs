@@ -34,13 +34,16 @@ extern "C" {
         numbers: *const NumberWords,
         signed: *const SignedWords,
     ) -> usize;
+    fn tuz_head_line(line: *mut Line, place: usize, length: usize, out: HeadOut) -> usize;
     fn tuz_end_line(line: *mut Line, units: usize, refused: usize) -> usize;
     fn tuz_sequence_at(out: *mut SequenceOut, table: *const Table, id: u32);
     fn tuz_picture_at(out: *mut PictureOut, table: *const Table, id: u32);
     fn tuz_put_sequence(table: *mut Table, id: u32, set: Sequence) -> ChangedOut;
     fn tuz_put_picture(table: *mut Table, id: u32, set: Picture) -> ChangedOut;
-    fn tuz_read_unit(
+    fn tuz_head(unit: *const u8, unit_len: usize) -> HeadOut;
+    fn tuz_body(
         out: *mut ReadOut,
+        head: UnitHead,
         sequences: *const [u32; 224],
         pictures: *const [u32; 2304],
         unit: *const u8,
@@ -56,6 +59,7 @@ extern "C" {
         w1: *mut WeightWords,
         base: *mut ListWords,
     );
+    fn tuz_next_unit(out: *mut StepOut, recording: *const u8, recording_len: usize, from: usize);
     fn tuz_walk(
         out: *mut WalkOut,
         sequences: *const [u32; 224],
@@ -74,7 +78,7 @@ extern "C" {
         w1: *mut WeightWords,
         base: *mut ListWords,
     );
-    fn tuz_header_bound(pictures: *const [u32; 2048], numbers: *const NumberWords) -> usize;
+    fn tuz_header_bound(pictures: *const [u32; 2304], numbers: *const NumberWords) -> usize;
     fn tuz_write_header(
         out: *mut WroteOut,
         sequences: *const [u32; 224],
@@ -118,9 +122,21 @@ macro_rules! plain {
     )* };
 }
 
-plain!(Table Sequence Picture SequenceOut PictureOut HeaderShort ReadOut WalkOut WroteOut ExtensionOut);
+plain!(Table Sequence Picture SequenceOut PictureOut HeaderShort HeadOut UnitHead ReadOut StepOut WalkOut WroteOut ExtensionOut);
 
 impl ReadOut {
+    /// What tells of a refusal.
+    pub(crate) fn refused(refusal: Refusal) -> ReadOut {
+        ReadOut {
+            answer: 3,
+            number: refusal.number,
+            value: refusal.value,
+            has_bit: refusal.bit.is_some(),
+            bit: refusal.bit.unwrap_or(0),
+            ..ReadOut::default()
+        }
+    }
+
     /// The refusal, where that is the answer.
     pub fn refusal(&self) -> Refusal {
         Refusal {
@@ -211,6 +227,14 @@ pub fn unit_line<'a>(
     &line[..end]
 }
 
+/// A unit's line in a listing of kinds: its place and length in the recording, and what its head said.
+pub fn head_line(line: &mut Line, place: usize, length: usize, out: HeadOut) -> &[u8] {
+    asked();
+    // SAFETY: the line lives through the call, which requires nothing.
+    let end = unsafe { tuz_head_line(line, place, length, out) };
+    &line[..end]
+}
+
 /// A listing's last line.
 pub fn end_line(line: &mut Line, units: usize, refused: usize) -> &[u8] {
     asked();
@@ -255,8 +279,43 @@ macro_rules! lending {
     }};
 }
 
+pub fn head(unit: &[u8]) -> HeadOut {
+    asked();
+    // SAFETY: the pointer and the length are those of a live slice, which the call only reads, and it requires nothing.
+    unsafe { tuz_head(unit.as_ptr(), unit.len()) }
+}
+
+impl HeadOut {
+    /// The head, or its refusal.
+    pub fn told(&self) -> Result<UnitHead, Refusal> {
+        match self.number {
+            0 => Ok(self.head),
+            number => Err(Refusal::new(number.into(), self.value)),
+        }
+    }
+}
+
+/// A unit's head, and then its body.
 pub fn read_unit(
     table: &Table,
+    unit: &[u8],
+    scratch: &mut [u8],
+    words: &mut Words,
+    out: &mut ReadOut,
+) {
+    match head(unit).told() {
+        Ok(head) => body(table, head, unit, scratch, words, out),
+        Err(refusal) => {
+            *words = Words::default();
+            *out = ReadOut::refused(refusal);
+        }
+    }
+}
+
+/// The body of a unit, for whoever has its head.
+pub fn body(
+    table: &Table,
+    head: UnitHead,
     unit: &[u8],
     scratch: &mut [u8],
     words: &mut Words,
@@ -267,7 +326,17 @@ pub fn read_unit(
     let (u, un) = (unit.as_ptr(), unit.len());
     let (s, sn) = (scratch.as_mut_ptr(), scratch.len());
     // SAFETY: each pointer and length is that of a live slice, the arrays live through the call and lie apart, and it requires nothing.
-    unsafe { lending!(words, tuz_read_unit(out, q, p, u, un, s, sn)) }
+    unsafe { lending!(words, tuz_body(out, head, q, p, u, un, s, sn)) }
+}
+
+/// The step without reading.
+pub fn next_unit(recording: &[u8], from: usize) -> StepOut {
+    asked();
+    let mut out = StepOut::default();
+    let (r, rn) = (recording.as_ptr(), recording.len());
+    // SAFETY: the pointer and the length are those of a live slice, which the call only reads, and it requires nothing.
+    unsafe { tuz_next_unit(&mut out, r, rn, from) };
+    out
 }
 
 pub fn walk(

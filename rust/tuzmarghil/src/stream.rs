@@ -4,8 +4,8 @@
 //! last mark (`00 00 00` or `00 00 01`) that has come. Nothing is lost by that. A start code never begins before a mark and reaches into it; and where the cut takes
 //! away a unit's end mark, what is left of it are zero bytes, which the walk drops at a recording's end.
 
-use crate::raw::{self, ReadOut, WalkOut, Words};
-use crate::{Reading, Refusal, Table, Unit, LIMIT};
+use crate::raw::{self, HeadOut, ReadOut, WalkOut, Words};
+use crate::{Reading, Refusal, Table, Unit, UnitHead, LIMIT};
 use std::io::{self, Read};
 
 /// A unit of a stream.
@@ -31,6 +31,33 @@ impl<'a> StreamReport<'a> {
     #[doc(hidden)]
     pub fn raw(&self) -> (&'a ReadOut, &'a Words) {
         self.reading.raw()
+    }
+}
+
+/// A unit of a stream, with its head alone.
+pub struct StreamHead<'a> {
+    /// Where the unit begins, after its start code.
+    pub place: u64,
+    /// How many bytes it has.
+    pub length: u64,
+    bytes: &'a [u8],
+    head: HeadOut,
+}
+
+impl<'a> StreamHead<'a> {
+    /// The unit's bytes; none where it is over [`LIMIT`].
+    pub fn bytes(&self) -> &'a [u8] {
+        self.bytes
+    }
+
+    /// What its first bytes say, or why they are refused.
+    pub fn head(&self) -> Result<UnitHead, Refusal> {
+        self.head.told().map(UnitHead)
+    }
+
+    #[doc(hidden)]
+    pub fn raw(&self) -> HeadOut {
+        self.head
     }
 }
 
@@ -123,8 +150,20 @@ impl<R: Read> Stream<R> {
     /// The next unit, by the sets of a table; nothing at the end. A unit is there as soon as its end mark has come.
     pub fn next(&mut self, table: &Table) -> io::Result<Option<StreamReport<'_>>> {
         loop {
-            if let Some(found) = self.find(table) {
+            if let Some(found) = self.find(Some(table)) {
                 return Ok(Some(self.report(found)));
+            }
+            if !self.read_more()? {
+                return Ok(None);
+            }
+        }
+    }
+
+    /// The next unit with its head alone: bodies are not read, so no table is needed.
+    pub fn next_head(&mut self) -> io::Result<Option<StreamHead<'_>>> {
+        loop {
+            if let Some(found) = self.find(None) {
+                return Ok(Some(self.head(found)));
             }
             if !self.read_more()? {
                 return Ok(None);
@@ -134,8 +173,14 @@ impl<R: Read> Stream<R> {
 
     /// The next unit that has come whole; nothing where [`Stream::read_more`] must be asked first.
     pub fn next_at_hand(&mut self, table: &Table) -> Option<StreamReport<'_>> {
-        let found = self.find(table)?;
+        let found = self.find(Some(table))?;
         Some(self.report(found))
+    }
+
+    /// The same, with the unit's head alone.
+    pub fn next_head_at_hand(&mut self) -> Option<StreamHead<'_>> {
+        let found = self.find(None)?;
+        Some(self.head(found))
     }
 
     /// Reads from the source once; false where all has been read before.
@@ -163,15 +208,13 @@ impl<R: Read> Stream<R> {
         }
     }
 
-    fn find(&mut self, table: &Table) -> Option<Found> {
+    /// The next unit, which is read where there is a table.
+    fn find(&mut self, table: Option<&Table>) -> Option<Found> {
         loop {
             if self.at < self.window {
-                let window = &self.buffer[..self.window];
-                let (scratch, words, out) = (&mut self.scratch, &mut self.words, &mut self.out);
-                raw::walk(table.as_raw(), window, self.at, scratch, words, out);
-                if out.step == 1 {
-                    self.at = out.next;
-                    let (from, to) = (out.place, out.place + out.length);
+                if let Some((from, length, next)) = self.step(table) {
+                    self.at = next;
+                    let to = from + length;
                     return Some(Found::Unit { from, to });
                 }
                 self.at = self.window;
@@ -196,6 +239,46 @@ impl<R: Read> Stream<R> {
         }
     }
 
+    /// A step of the walk in the window: a unit's place and length, and the place to go on from.
+    fn step(&mut self, table: Option<&Table>) -> Option<(usize, usize, usize)> {
+        let window = &self.buffer[..self.window];
+        match table {
+            None => {
+                let out = raw::next_unit(window, self.at);
+                (out.step == 1).then_some((out.place, out.length, out.next))
+            }
+            Some(table) => {
+                lengthen(&mut self.scratch, self.window);
+                let (scratch, words, out) = (&mut self.scratch, &mut self.words, &mut self.out);
+                raw::walk(table.as_raw(), window, self.at, scratch, words, out);
+                (out.step == 1).then_some((out.place, out.length, out.next))
+            }
+        }
+    }
+
+    fn head(&self, found: Found) -> StreamHead<'_> {
+        match found {
+            Found::Unit { from, to } => {
+                let bytes = &self.buffer[from..to];
+                StreamHead {
+                    place: self.base + from as u64,
+                    length: bytes.len() as u64,
+                    bytes,
+                    head: raw::head(bytes),
+                }
+            }
+            Found::TooLong { place, length } => StreamHead {
+                place,
+                length,
+                bytes: &[],
+                head: HeadOut {
+                    number: 27,
+                    ..HeadOut::default()
+                },
+            },
+        }
+    }
+
     fn report(&mut self, found: Found) -> StreamReport<'_> {
         let (place, length, bytes) = match found {
             Found::Unit { from, to } => {
@@ -203,8 +286,7 @@ impl<R: Read> Stream<R> {
                 (place, (to - from) as u64, &self.buffer[from..to])
             }
             Found::TooLong { place, length } => {
-                self.out.read = ReadOut::default();
-                (self.out.read.answer, self.out.read.number) = (3, 27);
+                self.out.read = ReadOut::refused(Refusal::new(27, 0));
                 *self.words = Words::default();
                 (place, length, &[][..])
             }
@@ -238,7 +320,6 @@ impl<R: Read> Stream<R> {
                 None => self.searched = self.searched.max(whole.saturating_sub(2)),
             }
         }
-        lengthen(&mut self.scratch, self.window);
         self.window > 0
     }
 
@@ -248,7 +329,7 @@ impl<R: Read> Stream<R> {
     }
 
     /// The unit at the front, where no window ends behind it: with its start code it is over the limit, or its end has not come.
-    fn wide_unit(&mut self, table: &Table) -> Option<Found> {
+    fn wide_unit(&mut self, table: Option<&Table>) -> Option<Found> {
         let from = self.searched.max(3);
         let end = mark(&self.buffer[from..self.filled]).map(|end| end + from);
         if end.is_none() && !self.ended {
@@ -267,10 +348,12 @@ impl<R: Read> Stream<R> {
             let (place, length) = (self.base + 3, to as u64 - 3);
             return Some(Found::TooLong { place, length });
         }
-        lengthen(&mut self.scratch, to);
-        let (words, read) = (&mut self.words, &mut self.out.read);
-        let bytes = &self.buffer[3..to];
-        raw::read_unit(table.as_raw(), bytes, &mut self.scratch, words, read);
+        if let Some(table) = table {
+            lengthen(&mut self.scratch, to);
+            let (words, read) = (&mut self.words, &mut self.out.read);
+            let bytes = &self.buffer[3..to];
+            raw::read_unit(table.as_raw(), bytes, &mut self.scratch, words, read);
+        }
         Some(Found::Unit { from: 3, to })
     }
 
@@ -466,6 +549,41 @@ mod tests {
                 // the byte behind a start code shows whether it was one
                 assert!(given as u64 <= needed, "{s:?}");
             }
+        }
+    }
+
+    /// Heads alone, or units in turn with heads: the same units, and what reading the others gives does not change.
+    #[test]
+    fn heads_are_of_the_same_units() {
+        let mut random = random(521288629521288629);
+        let table = Table::new();
+        for _ in 0..5_000 {
+            let s: Vec<u8> = (0..random(60))
+                .map(|_| [0, 0, 0, 1, 3, 0x65, 0x6E, 0xE5][random(8)])
+                .collect();
+            let (piece, limit) = (1 + random(12), 1 + random(20));
+            let open = || Stream::with(&s[..], piece, limit);
+            let (mut units, mut heads, mut both) = (open(), open(), open());
+            while let Some(r) = units.next(&table).unwrap() {
+                let head = heads.next_head().unwrap().unwrap();
+                assert_eq!((head.place, head.length), (r.place, r.length), "{s:?}");
+                assert_eq!(head.bytes(), r.bytes());
+                let refused = r
+                    .unit()
+                    .err()
+                    .filter(|r| matches!(r.number, 1 | 2 | 4 | 27));
+                assert_eq!(head.head().err(), refused, "{s:?}");
+                if random(2) == 0 {
+                    let r = both.next_head().unwrap().unwrap();
+                    assert_eq!((r.place, r.head()), (head.place, head.head()));
+                } else {
+                    let again = both.next(&table).unwrap().unwrap();
+                    assert_eq!((again.place, again.unit()), (r.place, r.unit()), "{s:?}");
+                }
+            }
+            assert!(heads.next_head().unwrap().is_none());
+            assert!(both.next_head().unwrap().is_none());
+            assert_eq!(heads.position(), units.position());
         }
     }
 

@@ -3,6 +3,41 @@
 use crate::raw::{self, ReadOut, Words};
 use crate::{NalHeader, NalHeaderExtension, PrefixNalUnit, Refusal, SliceHeader, Table, UnitType};
 
+/// What a unit's first bytes say, without its body: its type, its nal_ref_idc and its extension.
+#[derive(Clone, Copy, PartialEq, Eq)]
+pub struct UnitHead(pub(crate) raw::UnitHead);
+
+impl UnitHead {
+    /// `nal_unit_type`
+    pub fn nal_unit_type(self) -> UnitType {
+        UnitType::for_id(self.0.nal_unit_type).expect("a head has a type")
+    }
+
+    /// `nal_ref_idc`
+    pub fn nal_ref_idc(self) -> u8 {
+        self.0.nal_ref_idc
+    }
+
+    /// The extension of types 14, 20 and 21.
+    pub fn extension(self) -> Option<NalHeaderExtension> {
+        let first = NalHeader::from_byte(self.0.nal_unit_type);
+        let bytes = [self.0.b1, self.0.b2, self.0.b3];
+        first
+            .has_extension()
+            .then(|| NalHeaderExtension::from_bytes(bytes))
+    }
+}
+
+impl std::fmt::Debug for UnitHead {
+    fn fmt(&self, f: &mut std::fmt::Formatter<'_>) -> std::fmt::Result {
+        f.debug_struct("UnitHead")
+            .field("nal_unit_type", &self.nal_unit_type())
+            .field("nal_ref_idc", &self.nal_ref_idc())
+            .field("extension", &self.extension())
+            .finish()
+    }
+}
+
 /// What a unit holds.
 #[derive(Clone, Debug, PartialEq, Eq)]
 #[cfg_attr(feature = "serde", derive(serde::Serialize))]
@@ -14,6 +49,43 @@ pub enum Unit {
     Prefix(PrefixNalUnit),
     /// A unit of another type, which is not read.
     Other(UnitType),
+}
+
+impl Unit {
+    /// What a unit's first bytes say, or refusal 27, 1, 2 or 4. No table is needed, and the body is not looked at.
+    ///
+    /// ```
+    /// use tuzmarghil::{Table, Unit, UnitType};
+    ///
+    /// let (unit, table, mut scratch) = ([0x65, 0x88, 0x84, 0xA0], Table::sample(), Vec::new());
+    /// let head = Unit::head(&unit)?;
+    /// assert_eq!(head.nal_unit_type(), UnitType::SliceLayerWithoutPartitioningIdr);
+    /// assert_eq!((head.nal_ref_idc(), head.extension()), (3, None));
+    ///
+    /// // the body, for whoever has the head; another unit's is refused
+    /// assert!(matches!(Unit::body(&table, head, &unit, &mut scratch)?, Unit::Slice(_)));
+    /// let other = Unit::head(&[0x25])?;
+    /// assert_eq!(Unit::body(&table, other, &unit, &mut scratch).unwrap_err().number, 34);
+    /// # Ok::<(), tuzmarghil::Refusal>(())
+    /// ```
+    pub fn head(unit: &[u8]) -> Result<UnitHead, Refusal> {
+        raw::head(unit).told().map(UnitHead)
+    }
+
+    /// Reads the body of a unit whose head is known. The two in turn answer as [`read_unit`]; a head that is not the unit's own is refusal 34.
+    pub fn body(
+        table: &Table,
+        head: UnitHead,
+        unit: &[u8],
+        scratch: &mut Vec<u8>,
+    ) -> Result<Unit, Refusal> {
+        if scratch.len() < unit.len() {
+            scratch.resize(unit.len(), 0);
+        }
+        let (mut words, mut out) = (Words::default(), ReadOut::default());
+        raw::body(table.as_raw(), head.0, unit, scratch, &mut words, &mut out);
+        Reading::new(unit, &out, &words, scratch).unit()
+    }
 }
 
 /// A slice's headers.
@@ -61,7 +133,7 @@ impl Slice {
     }
 }
 
-/// Reads a unit, from its first byte on and escaped as it stands in the recording, by the sets of a table.
+/// Reads a unit, from its first byte on and escaped as it stands in the recording, by the sets of a table: its head ([`Unit::head`]), then its body ([`Unit::body`]).
 ///
 /// `scratch` takes the unescaped body; it grows to the unit's length and can be used again.
 ///
@@ -81,9 +153,7 @@ pub fn read_unit(table: &Table, unit: &[u8], scratch: &mut Vec<u8>) -> Result<Un
     if scratch.len() < unit.len() {
         scratch.resize(unit.len(), 0);
     }
-    let (mut words, mut out) = (Words::default(), ReadOut::default());
-    raw::read_unit(table.as_raw(), unit, scratch, &mut words, &mut out);
-    Reading::new(unit, &out, &words, scratch).unit()
+    Unit::body(table, Unit::head(unit)?, unit, scratch)
 }
 
 /// Reads units one after the other into memory that it keeps.
@@ -111,6 +181,16 @@ impl UnitReader {
         }
         let (scratch, words, out) = (&mut self.scratch, &mut self.words, &mut self.out);
         raw::read_unit(table.as_raw(), unit, scratch, words, out);
+        Reading::new(unit, out, words, scratch)
+    }
+
+    /// Reads the body of a unit whose head is known, as [`Unit::body`] does.
+    pub fn body<'a>(&'a mut self, table: &Table, head: UnitHead, unit: &'a [u8]) -> Reading<'a> {
+        if self.scratch.len() < unit.len() {
+            self.scratch.resize(unit.len(), 0);
+        }
+        let (scratch, words, out) = (&mut self.scratch, &mut self.words, &mut self.out);
+        raw::body(table.as_raw(), head.0, unit, scratch, words, out);
         Reading::new(unit, out, words, scratch)
     }
 }

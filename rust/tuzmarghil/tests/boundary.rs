@@ -475,8 +475,9 @@ fn prefix_by_its_extension() {
             b.u(1, u32::from(bit - b'0'));
         }
         let unit = b.unit(&front);
-        let Ok(Unit::Prefix(prefix)) = read_unit(&Table::new(), &unit, &mut Vec::new()) else {
-            panic!("{bits}");
+        let prefix = match read_unit(&Table::new(), &unit, &mut Vec::new()) {
+            Ok(Unit::Prefix(prefix)) => prefix,
+            other => panic!("{other:?}"),
         };
         let body = prefix.ref_base_pic.unwrap();
         let marking = body.dec_ref_base_pic_marking;
@@ -859,5 +860,230 @@ fn what_a_unit_starts_with() {
             e.output_flag(),
         );
         assert_eq!(flags, (of(19, 1) == 1, of(20, 1) == 1, of(21, 1) == 1));
+    }
+}
+
+/// A generator of small numbers.
+fn random(mut state: u64) -> impl FnMut(usize) -> usize {
+    move |most| {
+        state ^= state << 13;
+        state ^= state >> 7;
+        state ^= state << 17;
+        (state >> 33) as usize % most
+    }
+}
+
+/// A unit's head and its body in turn are what a walk reads of it: answer, scratch and words. Each was lent the same remains.
+#[test]
+fn head_and_body_in_turn() {
+    let (table, mut random) = (Table::sample(), random(88172645463325252));
+    let firsts = [
+        0x65, 0x41, 0x01, 0x6E, 0x0E, 0x74, 0x15, 0x67, 0x09, 0xE5, 0x80,
+    ];
+    let mut met = [0; 40];
+    for _ in 0..20_000 {
+        let mut unit: Vec<u8> = (0..random(9)).map(|_| random(255) as u8 + 1).collect();
+        if let Some(first) = unit.first_mut() {
+            *first = firsts[random(firsts.len())];
+        }
+        let recording = [&[0, 0, 1], &unit[..]].concat();
+        let mut remains = raw::Words::default();
+        (remains.numbers[29], remains.l0[1], remains.base[2]) = (1, 7, 9);
+        let (mut words, mut scratch) = (remains.clone(), [5; 12]);
+        let mut walked = raw::WalkOut::default();
+        raw::walk(
+            table.as_raw(),
+            &recording,
+            0,
+            &mut scratch,
+            &mut words,
+            &mut walked,
+        );
+
+        let (mut own, mut own_scratch, mut out) = (remains, [5; 12], raw::ReadOut::default());
+        let head = raw::head(&unit);
+        match head.told() {
+            Ok(head) => raw::body(
+                table.as_raw(),
+                head,
+                &unit,
+                &mut own_scratch,
+                &mut own,
+                &mut out,
+            ),
+            Err(refusal) => {
+                assert!(matches!(refusal.number, 1 | 2 | 4));
+                raw::read_unit(table.as_raw(), &unit, &mut own_scratch, &mut own, &mut out);
+                assert_eq!((out.answer, out.refusal()), (3, refusal));
+            }
+        }
+        assert_eq!(out, walked.read, "{unit:?}");
+        assert_eq!((own_scratch, own == words), (scratch, true), "{unit:?}");
+        assert_eq!(
+            Unit::head(&unit).and_then(|head| Unit::body(&table, head, &unit, &mut Vec::new())),
+            read_unit(&table, &unit, &mut Vec::new())
+        );
+        met[if out.answer == 3 {
+            out.number as usize
+        } else {
+            30 + out.answer as usize
+        }] += 1;
+    }
+    for kind in [1, 2, 4, 5, 30, 31, 32] {
+        assert!(met[kind] > 0, "{kind}");
+    }
+}
+
+/// A head is compared whole, before scratch is: 34, with scratch untouched and all words zeros.
+#[test]
+fn another_units_head() {
+    let (table, unit) = (Table::sample(), [0x6E, 0x80, 0, 7, 0xBF, 0xF0]);
+    let head = raw::head(&unit).head;
+    let others = [
+        raw::UnitHead {
+            nal_unit_type: 20,
+            ..head
+        },
+        raw::UnitHead {
+            nal_ref_idc: 2,
+            ..head
+        },
+        raw::UnitHead { b1: 0x81, ..head },
+        raw::UnitHead { b2: 1, ..head },
+        raw::UnitHead { b3: 6, ..head },
+        raw::UnitHead {
+            nal_unit_type: 255,
+            nal_ref_idc: 255,
+            b1: 255,
+            b2: 255,
+            b3: 255,
+        },
+    ];
+    let read = |head, unit: &[u8], length: usize| {
+        let (mut words, mut out) = (raw::Words::default(), raw::ReadOut::default());
+        (words.l0[3], words.base[2]) = (7, 9);
+        let mut scratch = vec![5; length];
+        raw::body(
+            table.as_raw(),
+            head,
+            unit,
+            &mut scratch,
+            &mut words,
+            &mut out,
+        );
+        let clear = words == raw::Words::default() && scratch == vec![5; length];
+        (out.answer, out.number, out.value, out.has_bit, clear)
+    };
+    let refused = (3, 34, 0, false, true);
+    for other in others {
+        assert_eq!(read(other, &unit, 6), refused, "{other:?}");
+        // 26 comes behind it
+        assert_eq!(read(other, &unit, 0), refused, "{other:?}");
+    }
+    assert_eq!(read(head, &unit, 5), (3, 26, 6, false, true));
+    assert_eq!(read(head, &unit, 6).0, 2);
+    // units that have no head
+    let none = raw::UnitHead::default();
+    for unit in [&[][..], &[0x80], &[0x6E, 0x80, 0]] {
+        assert_eq!(read(head, unit, 6), refused, "{unit:?}");
+        assert_eq!(read(none, unit, 6), refused, "{unit:?}");
+    }
+    let told = Unit::body(&table, Unit::head(&[0x65]).unwrap(), &unit, &mut Vec::new());
+    assert_eq!(told, Err(Refusal::new(34, 0)));
+    assert_eq!(
+        told.unwrap_err().to_string(),
+        "refused 34: the head is not the unit's own"
+    );
+}
+
+/// Every first byte, with its extension and without.
+#[test]
+fn heads_and_their_lines() {
+    for first in 0..=255 {
+        let unit = [first, 0x8D, 0x40, 0x07];
+        for length in 0..=4 {
+            let unit = &unit[..length];
+            let (kind, has) = (first & 31, matches!(first & 31, 14 | 20 | 21));
+            let number = match length {
+                0 => 1,
+                _ if first > 127 => 2,
+                1..=3 if has => 4,
+                _ => 0,
+            };
+            let (mut line, out) = ([0; 128], raw::head(unit));
+            let line =
+                String::from_utf8_lossy(raw::head_line(&mut line, 3, length, out)).into_owned();
+            let told = match Unit::head(unit) {
+                Err(refusal) => {
+                    assert_eq!(refusal, Refusal::new(number, 0));
+                    assert_eq!(out.head, raw::UnitHead::default());
+                    format!("refused {number} value=0")
+                }
+                Ok(head) => {
+                    assert_eq!((number, head.nal_unit_type().id()), (0, kind));
+                    assert_eq!(head.nal_ref_idc(), first >> 5);
+                    let bytes = head.extension().map(NalHeaderExtension::to_bytes);
+                    assert_eq!(bytes, has.then_some([0x8D, 0x40, 0x07]));
+                    let ext = if has { " ext=svc 8d4007" } else { "" };
+                    format!("type={kind} nal_ref_idc={}{ext}", first >> 5)
+                }
+            };
+            assert_eq!(line, format!("unit place=3 length={length} {told}\n"));
+        }
+    }
+    let (mut line, most) = ([0; 128], usize::MAX);
+    let head = raw::UnitHead {
+        nal_unit_type: 20,
+        nal_ref_idc: 255,
+        b1: 0x7F,
+        b2: 0xA0,
+        b3: 0x09,
+    };
+    let out = raw::HeadOut {
+        head,
+        ..raw::HeadOut::default()
+    };
+    let told = format!("unit place={most} length={most} type=20 nal_ref_idc=255 ext=mvc 7fa009\n");
+    assert_eq!(
+        String::from_utf8_lossy(raw::head_line(&mut line, most, most, out)),
+        told
+    );
+    let out = raw::HeadOut {
+        number: 255,
+        value: i64::MIN,
+        head,
+    };
+    let told = format!(
+        "unit place={most} length={most} refused 255 value={}\n",
+        i64::MIN
+    );
+    assert_eq!(
+        String::from_utf8_lossy(raw::head_line(&mut line, most, most, out)),
+        told
+    );
+}
+
+/// A step without reading is the walk's.
+#[test]
+fn steps_without_reading() {
+    let (table, mut random) = (Table::new(), random(1442695040888963407));
+    for _ in 0..2_000 {
+        let s: Vec<u8> = (0..random(60))
+            .map(|_| [0, 0, 0, 1, 3, 0x65][random(6)])
+            .collect();
+        for from in 0..=s.len() + 1 {
+            let (mut words, mut scratch) = (raw::Words::default(), vec![0; s.len()]);
+            let mut out = raw::WalkOut::default();
+            raw::walk(table.as_raw(), &s, from, &mut scratch, &mut words, &mut out);
+            let step = raw::next_unit(&s, from);
+            assert_eq!(
+                (step.step, step.number, step.value),
+                (out.step, out.number, out.value)
+            );
+            assert_eq!(
+                (step.place, step.length, step.next),
+                (out.place, out.length, out.next)
+            );
+        }
     }
 }

@@ -4,14 +4,14 @@ use borrow.Author.Needs.{needs}
 use Rattle.try_writer.proofs.shown.read_part.Statement.{statement}
 use Rattle.try_writer.proofs.shown.read_part.Tie as tie
 
-slice-aggregate-read-unit-into : tie.Need-slice-aggregate-read-unit-into
-slice-aggregate-read-unit-into c = sym (length-take-le _ _ (search needs))
+slice-aggregate-read-in-turn : tie.Need-slice-aggregate-read-in-turn
+slice-aggregate-read-in-turn c = sym (length-take-le _ _ (search needs))
 
-slice-aggregate-read-unit-into-2 : tie.Need-slice-aggregate-read-unit-into-2
-slice-aggregate-read-unit-into-2 c = search needs
+slice-aggregate-read-in-turn-2 : tie.Need-slice-aggregate-read-in-turn-2
+slice-aggregate-read-in-turn-2 c = search needs
 
-read-unit-into-requires : tie.Need-read-unit-into-requires
-read-unit-into-requires c κs = search needs
+read-in-turn-requires : tie.Need-read-in-turn-requires
+read-in-turn-requires c κs = search needs
 
 header-requires : tie.Need-header-requires
 header-requires c κs = search needs
@@ -35,9 +35,9 @@ pub read-part-spec : {M : Type 1} → statement M
 read-part-spec =
     tie.close
     (tie.spec
-    slice-aggregate-read-unit-into
-    slice-aggregate-read-unit-into-2
-    read-unit-into-requires
+    slice-aggregate-read-in-turn
+    slice-aggregate-read-in-turn-2
+    read-in-turn-requires
     header-requires
     slice-aggregate-text
     text-requires

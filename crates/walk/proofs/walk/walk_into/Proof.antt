@@ -26,24 +26,24 @@ returns c = rw (none-read _ _ _ _ (c .before .next-step .ensures) (c .match .key
 add-end : tie.Need-add-end
 add-end c = let w = found (c .before) in omega arith
 
-sub-read-unit-into : tie.Need-sub-read-unit-into
-sub-read-unit-into c = search needs
+sub-in-turn : tie.Need-sub-in-turn
+sub-in-turn c = search needs
 
-part-read-unit-into-start : tie.Need-part-read-unit-into-start
-part-read-unit-into-start c = search needs
+part-in-turn-start : tie.Need-part-in-turn-start
+part-in-turn-start c = search needs
 
-part-read-unit-into-end : tie.Need-part-read-unit-into-end
-part-read-unit-into-end c = let w = found (c .before) in omega arith
+part-in-turn-end : tie.Need-part-in-turn-end
+part-in-turn-end c = let w = found (c .before) in omega arith
 
-read-unit-into-requires : tie.Need-read-unit-into-requires
-read-unit-into-requires c κs = search needs
+in-turn-requires : tie.Need-in-turn-requires
+in-turn-requires c κs = search needs
 
 same-length : tie.Need-same-length
 same-length c = search needs
 
 returns-2 : tie.Need-returns-2
 returns-2 c =
-    let g = c .before .before .read-unit-into .ensures in
+    let g = c .before .before .in-turn .ensures in
     rw (was-read _ _ _ _ (sym (c .before .before .before .before .before .before .before .before .before .before .before .before .before .before .before .before .next-step .ensures) ∙ c .before .before .before .before .before .before .before .before .before .before .before .before .before .before .step .given .1)) (record { step = refl; answered = g .answered; left = g .left; words = g .words })
 
 pub walk-into-spec : {M : Type 1} → statement M
@@ -54,9 +54,9 @@ walk-into-spec =
     enum-known-step
     returns
     add-end
-    sub-read-unit-into
-    part-read-unit-into-start
-    part-read-unit-into-end
-    read-unit-into-requires
+    sub-in-turn
+    part-in-turn-start
+    part-in-turn-end
+    in-turn-requires
     same-length
     returns-2)

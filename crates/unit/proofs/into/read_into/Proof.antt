@@ -1,7 +1,7 @@
 use Rattle.unit.proofs.Held.{kept-slice, kept-prefix, kept-other, cleared}
 use borrow.Author.Needs.{needs}
-use Rattle.unit.proofs.into.read_unit_into.Statement.{statement}
-use Rattle.unit.proofs.into.read_unit_into.Tie as tie
+use Rattle.unit.proofs.into.read_into.Statement.{statement}
+use Rattle.unit.proofs.into.read_into.Tie as tie
 
 take-requires : tie.Need-take-requires
 take-requires c κs = search needs
@@ -18,11 +18,8 @@ enum-known-id c = search needs
 enum-known-r : tie.Need-enum-known-r
 enum-known-r c = search needs
 
-clear-header-requires : tie.Need-clear-header-requires
-clear-header-requires c κs = search needs
-
-clear-list-requires : tie.Need-clear-list-requires
-clear-list-requires c κs = search needs
+clear-words-requires : tie.Need-clear-words-requires
+clear-words-requires c κs = search needs
 
 same-length : tie.Need-same-length
 same-length c = search needs
@@ -46,10 +43,10 @@ same-length-4 : tie.Need-same-length-4
 same-length-4 c = search needs
 
 returns-4 : tie.Need-returns-4
-returns-4 c = cleared (c .before .before .before .before .before .before .before .before .before .before .before .before .before .before .before .take .ensures) _ (c .before .before .before .before .before .before .before .before .before .before .before .r .given .1) (c .before .before .clear-header .ensures) (c .clear-list .ensures)
+returns-4 c = cleared (c .before .before .before .before .before .before .before .before .before .before .before .before .before .before .take .ensures) _ (c .before .before .before .before .before .before .before .before .before .before .r .given .1) (c .clear-words .ensures)
 
-pub read-unit-into-spec : {M : Type 1} → statement M
-read-unit-into-spec =
+pub read-into-spec : {M : Type 1} → statement M
+read-into-spec =
     tie.close
     (tie.spec
     take-requires
@@ -57,8 +54,7 @@ read-unit-into-spec =
     enum-known-p
     enum-known-id
     enum-known-r
-    clear-header-requires
-    clear-list-requires
+    clear-words-requires
     same-length
     returns
     same-length-2

@@ -1,0 +1,33 @@
+use mathlib.Core.Path.{sym, _∙_}
+use Rattle.header.specs.Lead.{tableOf}
+use Rattle.unit.proofs.Held.{refused-into}
+use Rattle.unit.proofs.Pair.{head-given, head-refused}
+use borrow.Author.Needs.{needs}
+use Rattle.walk.proofs.walk.in_turn.Statement.{statement}
+use Rattle.walk.proofs.walk.in_turn.Tie as tie
+
+returns : tie.Need-returns
+returns c =
+    let a = c .before .before .before .before .before .before .before .before .before .before .before .before .before .before .before .before .before .before .args in
+    rw (← head-given (tableOf (a .sequences .now) (a .pictures .now)) (a .unit .now) (a .scratch .now) (sym (c .before .before .before .before .before .before .before .before .before .before .before .before .before .before .before .head .ensures) ∙ c .before .before .before .before .before .before .before .before .before .before .before .before .before .h .given .1))
+    (c .before .before .read-body-into .ensures)
+
+returns-2 : tie.Need-returns-2
+returns-2 c =
+    let a = c .before .before .before .before .before .before .before .before .before .before .before .before .before .before .before .args in
+    refused-into
+    (head-refused (tableOf (a .sequences .now) (a .pictures .now)) (a .unit .now) (a .scratch .now) (sym (c .before .before .before .before .before .before .before .before .before .before .before .before .head .ensures) ∙ c .before .before .before .before .before .before .before .before .before .before .r .given .1)) _
+    (c .clear-words .ensures)
+
+pub in-turn-spec : {M : Type 1} → statement M
+in-turn-spec =
+    tie.close
+    (tie.spec
+    (λ c κs. search needs)
+    (λ c. search needs)
+    (λ c κs. search needs)
+    (λ c. search needs)
+    (λ c κs. search needs)
+    (λ c. search needs)
+    returns
+    returns-2)

@@ -1,0 +1,132 @@
+//! `tuz kinds`: what the first bytes of each unit say, without its body.
+
+use crate::answer::{self, KINDS};
+use crate::form::{self, Format};
+use crate::input::{Clip, Each, Recording};
+use crate::output::Stdout;
+use crate::Ending;
+use anyhow::Result;
+use std::fmt::Write;
+use tuzmarghil::raw;
+use tuzmarghil::{Stream, StreamHead};
+
+/// Runs it; the exit status.
+pub fn run(clip: &Clip, format: Format, ending: &Ending, out: &mut Stdout) -> Result<u8> {
+    let recording = clip.open()?;
+    let mut kinds = Kinds {
+        format,
+        strict: ending.strict,
+        terminal: console::user_attended(),
+        begun: false,
+        line: Vec::new(),
+        types: [0; 32],
+        refused: 0,
+        within: 0,
+        out,
+    };
+    let bytes = recording.units(ending.quiet, &mut kinds)?;
+    if !kinds.wanted() {
+        return Ok(0);
+    }
+    kinds.end()?;
+    if !ending.quiet {
+        eprintln!("{}: {}", clip.name(), kinds.told(bytes));
+    }
+    Ok(u8::from(ending.strict && kinds.refused > 0))
+}
+
+struct Kinds<'a> {
+    format: Format,
+    strict: bool,
+    terminal: bool,
+    begun: bool,
+    line: Vec<u8>,
+    /// How many units have each type, how many are refused, and how many bytes they all have.
+    types: [u64; 32],
+    refused: u64,
+    within: u64,
+    out: &'a mut Stdout,
+}
+
+impl Each for Kinds<'_> {
+    fn unit(&mut self, stream: &mut Stream<Recording>) -> Result<bool> {
+        match stream.next_head_at_hand() {
+            None => Ok(false),
+            Some(unit) => self.take(&unit).map(|()| true),
+        }
+    }
+
+    fn pause(&mut self) -> Result<()> {
+        self.out.flush_lines()
+    }
+
+    fn wanted(&self) -> bool {
+        !self.out.closed() || self.strict
+    }
+}
+
+impl Kinds<'_> {
+    fn take(&mut self, unit: &StreamHead<'_>) -> Result<()> {
+        self.begin()?;
+        let (out, place, length) = (unit.raw(), unit.place as i64, unit.length as i64);
+        self.within += unit.length;
+        match out.number {
+            0 => self.types[usize::from(out.head.nal_unit_type)] += 1,
+            _ => self.refused += 1,
+        }
+        let line = &mut self.line;
+        line.clear();
+        match self.format {
+            Format::Text => {
+                let mut text = [0; 128];
+                let (place, length) = (unit.place as usize, unit.length as usize);
+                line.extend_from_slice(raw::head_line(&mut text, place, length, out));
+                if let (true, Err(why)) = (self.terminal, unit.head()) {
+                    line.pop();
+                    line.extend_from_slice(b": ");
+                    line.extend_from_slice(why.reason().as_bytes());
+                    line.push(b'\n');
+                }
+            }
+            Format::Json => form::json(line, place, length, |form| answer::head(unit.head(), form)),
+            Format::Csv => form::row(line, &KINDS, place, length, |form| {
+                answer::head(unit.head(), form)
+            }),
+        }
+        self.out.write(&self.line)
+    }
+
+    /// The columns' names, once there is anything to tell.
+    fn begin(&mut self) -> Result<()> {
+        let begun = std::mem::replace(&mut self.begun, true);
+        if !begun && self.format == Format::Csv {
+            self.out.write(form::head(&KINDS).as_bytes())?;
+        }
+        Ok(())
+    }
+
+    fn units(&self) -> u64 {
+        self.types.iter().sum::<u64>() + self.refused
+    }
+
+    /// All units were told.
+    fn end(&mut self) -> Result<()> {
+        self.begin()?;
+        if self.format == Format::Text {
+            let mut line = [0; 128];
+            let (units, refused) = (self.units() as usize, self.refused as usize);
+            self.out.write(raw::end_line(&mut line, units, refused))?;
+        }
+        self.out.finish()
+    }
+
+    /// The totals in words, over a recording of so many bytes.
+    fn told(&self, bytes: u64) -> String {
+        let (units, outside) = (self.units(), bytes.saturating_sub(self.within));
+        let mut told = format!("{bytes} bytes, {outside} of them in no unit; {units} units: ");
+        for (id, count) in self.types.iter().enumerate().filter(|(_, n)| **n > 0) {
+            let _ = write!(told, "{count} of type {id}, ");
+        }
+        told + &format!("{} refused", self.refused)
+    }
+}
