@@ -17,26 +17,14 @@ Inv-loop recording scratch₀ t line₀ state₀ scratch line state = (length sc
 abbrev μ-loop : tie.MeasureT-loop
 μ-loop recording scratch₀ t line₀ state₀ scratch line state = length recording - state .from
 
-sample-table-requires : tie.Need-sample-table-requires Inv-loop μ-loop
-sample-table-requires c κs = search needs
-
-start-requires : tie.Need-start-requires Inv-loop μ-loop
-start-requires c κs = search needs
-
 loop-holds : tie.Need-loop-holds Inv-loop μ-loop
 loop-holds c = (refl, (refl, rw (c .start .ensures) (omega arith)))
-
-list-step-requires : tie.Need-list-step-requires Inv-loop μ-loop
-list-step-requires c κs = search needs
 
 array-share-prefix-line : tie.Need-array-share-prefix-line Inv-loop μ-loop
 array-share-prefix-line c = omega (arith, c .before .before .list-step .ensures .text .short, same-line (c .before .before .list-step .ensures .text), c .before .before .before .before .before .before .before .before .loop .inv .1 .0)
 
 slice-aggregate-write-all : tie.Need-slice-aggregate-write-all Inv-loop μ-loop
 slice-aggregate-write-all c = sym (length-take-le _ _ (omega (arith, c .before .before .before .list-step .ensures .text .short, same-line (c .before .before .before .list-step .ensures .text), c .before .before .before .before .before .before .before .before .before .loop .inv .1 .0)))
-
-write-all-requires : tie.Need-write-all-requires Inv-loop μ-loop
-write-all-requires c κs = search needs
 
 same-length : tie.Need-same-length Inv-loop μ-loop
 same-length c = c .before .before .before .before .before .list-step .kept .1 .1 .1 .1 .0 ∙ c .before .before .before .before .before .before .before .before .before .before .before .loop .inv .0
@@ -66,13 +54,13 @@ print-spec =
     (tie.spec
     Inv-loop
     μ-loop
-    sample-table-requires
-    start-requires
+    (λ c κs. search needs)
+    (λ c κs. search needs)
     loop-holds
-    list-step-requires
+    (λ c κs. search needs)
     array-share-prefix-line
     slice-aggregate-write-all
-    write-all-requires
+    (λ c κs. search needs)
     same-length
     returns
     same-length-2

@@ -21,26 +21,8 @@ abbrev μ-loop : tie.MeasureT-loop
 loop-holds : tie.Need-loop-holds Inv-loop μ-loop
 loop-holds c = (search needs, omega arith, fill-start _ _ _ _)
 
-chunk-requires : tie.Need-chunk-requires Inv-loop μ-loop
-chunk-requires c κs = search needs
-
-piece-requires : tie.Need-piece-requires Inv-loop μ-loop
-piece-requires c κs = search needs
-
 fill-byte-requires : tie.Need-fill-byte-requires Inv-loop μ-loop
 fill-byte-requires c κs = (omega (arith, simp length-put at (ap length (c .before .before .before .before .loop .inv .2))), search needs, search needs, rw (c .piece .ensures) (mod-lt _ (pow-pos _)))
-
-cast-p : tie.Need-cast-p Inv-loop μ-loop
-cast-p c = search needs
-
-add-p : tie.Need-add-p Inv-loop μ-loop
-add-p c = search needs
-
-sub-left : tie.Need-sub-left Inv-loop μ-loop
-sub-left c = search needs
-
-loop-less : tie.Need-loop-less Inv-loop μ-loop
-loop-less c = search needs
 
 loop-again : tie.Need-loop-again Inv-loop μ-loop
 loop-again c =
@@ -62,13 +44,13 @@ fill-spec =
     Inv-loop
     μ-loop
     loop-holds
-    chunk-requires
-    piece-requires
+    (λ c κs. search needs)
+    (λ c κs. search needs)
     fill-byte-requires
-    cast-p
-    add-p
-    sub-left
-    loop-less
+    (λ c. search needs)
+    (λ c. search needs)
+    (λ c. search needs)
+    (λ c. search needs)
     loop-again
     same-length
     returns)

@@ -8,18 +8,6 @@ use borrow.Author.Needs.{needs}
 use Rattle.bits.proofs.put.bytes_for.Statement.{statement}
 use Rattle.bits.proofs.put.bytes_for.Tie as tie
 
-add-result : tie.Need-add-result
-add-result c = search needs
-
-add-result-2 : tie.Need-add-result-2
-add-result-2 c = search needs
-
-add-result-3 : tie.Need-add-result-3
-add-result-3 c = search needs
-
-cast-result : tie.Need-cast-result
-cast-result c = search needs
-
 returns : tie.Need-returns
 returns c =
     let a = c .args in
@@ -27,4 +15,4 @@ returns c =
     toZ-pos w64 (omega arith) ∙ ap pos e
 
 pub bytes-for-spec : {M : Type 1} → statement M
-bytes-for-spec = tie.close (tie.spec add-result add-result-2 add-result-3 cast-result returns)
+bytes-for-spec = tie.close (tie.spec (λ c. search needs) (λ c. search needs) (λ c. search needs) (λ c. search needs) returns)

@@ -4,11 +4,8 @@ use borrow.Author.Needs.{needs}
 use Rattle.bits.proofs.put.fits.Statement.{statement}
 use Rattle.bits.proofs.put.fits.Tie as tie
 
-shl-result : tie.Need-shl-result
-shl-result c = search needs
-
 returns : tie.Need-returns
 returns c = rw (one-shl (c .args .n) (omega arith))
 
 pub fits-spec : {M : Type 1} → statement M
-fits-spec = tie.close (tie.spec shl-result returns)
+fits-spec = tie.close (tie.spec (λ c. search needs) returns)

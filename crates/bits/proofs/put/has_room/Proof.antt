@@ -37,12 +37,6 @@ smaller r n m a b f = go (decLt n m)
 whole : (c : tie.After-reached) → c .reached .result ≡ pick (ltb (c .before .args .len) reach) (c .before .args .len) reach
 whole c = let e = c .reached .ensures in smaller (c .reached .result) (c .before .args .len) reach (e .0) (e .1) (e .2)
 
-reached-requires : tie.Need-reached-requires
-reached-requires c κs = search needs
-
-mul-end : tie.Need-mul-end
-mul-end c = search needs
-
 returns : tie.Need-returns
 returns c =
     let a = c .before .before .args in
@@ -55,4 +49,4 @@ returns-2 c =
     rw (← whole (c .before)) (same-test (a .n) (r * 8 - a .at) (a .at + a .n) (8 * r) (λ h. omega arith) (λ h. omega arith))
 
 pub has-room-spec : {M : Type 1} → statement M
-has-room-spec = tie.close (tie.spec reached-requires mul-end returns returns-2)
+has-room-spec = tie.close (tie.spec (λ c κs. search needs) (λ c. search needs) returns returns-2)

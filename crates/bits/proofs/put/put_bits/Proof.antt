@@ -36,26 +36,8 @@ room c = sym (c .before .has-room .ensures) ∙ not-false _ (c .if2 .left)
 inside : (c : tie.Else2) → let a = c .before .before .before .before .before .before .args in let n = c .before .before .before .before .field-width .result in (a .c .at + n ≤ 8 * length (a .d .now)) × (a .c .at + n ≤ 8 * reach)
 inside c = let a = c .before .before .before .before .before .before .args in room-fits (a .d .now) _ (room c)
 
-field-width-requires : tie.Need-field-width-requires
-field-width-requires c κs = search needs
-
-fits-requires : tie.Need-fits-requires
-fits-requires c κs = search needs
-
-refuse-requires : tie.Need-refuse-requires
-refuse-requires c κs = search needs
-
 returns : tie.Need-returns
 returns c = ends-none _ _ _ _ _ (good (c .before .before) ∙ not-true _ (c .before .if1 .taken)) (c .refuse .ensures)
-
-has-room-requires : tie.Need-has-room-requires
-has-room-requires c κs = search needs
-
-bytes-for-requires : tie.Need-bytes-for-requires
-bytes-for-requires c κs = search needs
-
-refuse-requires-2 : tie.Need-refuse-requires-2
-refuse-requires-2 c κs = search needs
 
 -- a signed argument is handed over by its bits
 back : (c : tie.After-bytes-for) → toZ w64 (ofZ w64 (c .bytes-for .result)) ≡ c .bytes-for .result
@@ -75,14 +57,8 @@ fill-requires c κs =
     let f = s .before .before .field-width .ensures in
     (omega (arith, i .0), omega (arith, i .1), f .1, rw (f .0) (ltb-true _ _ (is-good s)))
 
-cast-t10 : tie.Need-cast-t10
-cast-t10 c = search needs
-
 add-t16 : tie.Need-add-t16
 add-t16 c = omega (arith, inside (c .before .before .before .before) .1)
-
-same-length : tie.Need-same-length
-same-length c = search needs
 
 returns-3 : tie.Need-returns-3
 returns-3 c =
@@ -96,16 +72,16 @@ pub put-bits-spec : {M : Type 1} → statement M
 put-bits-spec =
     tie.close
     (tie.spec
-    field-width-requires
-    fits-requires
-    refuse-requires
+    (λ c κs. search needs)
+    (λ c κs. search needs)
+    (λ c κs. search needs)
     returns
-    has-room-requires
-    bytes-for-requires
-    refuse-requires-2
+    (λ c κs. search needs)
+    (λ c κs. search needs)
+    (λ c κs. search needs)
     returns-2
     fill-requires
-    cast-t10
+    (λ c. search needs)
     add-t16
-    same-length
+    (λ c. search needs)
     returns-3)

@@ -21,20 +21,11 @@ held c = search needs
 small : (c : tie.Else1) → natAbs (c .before .before .args .v) < 2 ^ 31
 small c = has-code _ (held (c .before .before)) (c .if1 .left)
 
-refuse-requires : tie.Need-refuse-requires
-refuse-requires c κs = search needs
-
 returns : tie.Need-returns
 returns c = ends-none _ _ _ _ _ (le-ltb _ _ (no-code _ (held (c .before .before .before)) (c .before .if1 .taken))) (c .refuse .ensures)
 
 se-code-requires : tie.Need-se-code-requires
 se-code-requires c κs = rw (back (c .before .before .before)) (small (c .before))
-
-put-ue-requires : tie.Need-put-ue-requires
-put-ue-requires c κs = search needs
-
-same-length : tie.Need-same-length
-same-length c = search needs
 
 returns-2 : tie.Need-returns-2
 returns-2 c =
@@ -46,4 +37,4 @@ returns-2 c =
 pub put-se-spec : {M : Type 1} → statement M
 put-se-spec =
     tie.close
-    (tie.spec refuse-requires returns se-code-requires put-ue-requires same-length returns-2)
+    (tie.spec (λ c κs. search needs) returns se-code-requires (λ c κs. search needs) (λ c. search needs) returns-2)

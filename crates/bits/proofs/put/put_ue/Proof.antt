@@ -40,32 +40,11 @@ room c = sym (c .before .has-room .ensures) ∙ not-false _ (c .if2 .left)
 inside : (c : tie.Else2) → let a = c .before .before .before .before .args in (a .c .at + (2 * ueZeros (a .v) + 1) ≤ 8 * length (a .d .now)) × (a .c .at + (2 * ueZeros (a .v) + 1) ≤ 8 * reach)
 inside c = let a = c .before .before .before .before .args in room-fits (a .d .now) _ (room c)
 
-refuse-requires : tie.Need-refuse-requires
-refuse-requires c κs = search needs
-
 returns : tie.Need-returns
 returns c = ends-none _ _ _ _ _ (le-ltb (c .before .before .before .args .v) 4294967295 (omega arith)) (c .refuse .ensures)
 
-add-x : tie.Need-add-x
-add-x c = search needs
-
 sub-z : tie.Need-sub-z
 sub-z c = few-leading (c .before .before .args .v) (small c)
-
-mul-size : tie.Need-mul-size
-mul-size c = search needs
-
-add-size : tie.Need-add-size
-add-size c = search needs
-
-has-room-requires : tie.Need-has-room-requires
-has-room-requires c κs = search needs
-
-bytes-for-requires : tie.Need-bytes-for-requires
-bytes-for-requires c κs = search needs
-
-refuse-requires-2 : tie.Need-refuse-requires-2
-refuse-requires-2 c κs = search needs
 
 -- a signed argument is handed over by its bits
 back : (c : tie.After-bytes-for) → toZ w64 (ofZ w64 (c .bytes-for .result)) ≡ c .bytes-for .result
@@ -85,15 +64,9 @@ fill-requires c κs =
     let i = inside (c .before) in
     (omega (arith, i .0), omega (arith, i .1), omega arith, pow-pos _)
 
-cast-fill : tie.Need-cast-fill
-cast-fill c = search needs
-
 add-fill : tie.Need-add-fill
 unfolding ueZeros
 add-fill c = omega (arith, inside (c .before .before .before .before .before) .1)
-
-add-fill-2 : tie.Need-add-fill-2
-add-fill-2 c = search needs
 
 fill-requires-2 : tie.Need-fill-requires-2
 unfolding ueZeros
@@ -107,15 +80,9 @@ fill-requires-2 c κs =
     let n = simp length-put at (ap length (f .fill .ensures)) in
     (omega (arith, i .0, n), omega (arith, i .1), omega arith, rw (add-one (ueZeros v), pow-suc) (omega (arith, z .below)))
 
-cast-t11 : tie.Need-cast-t11
-cast-t11 c = search needs
-
 add-t20 : tie.Need-add-t20
 unfolding ueZeros
 add-t20 c = omega (arith, inside (c .before .before .before .before .before .before .before .before) .1)
-
-same-length : tie.Need-same-length
-same-length c = search needs
 
 returns-3 : tie.Need-returns-3
 unfolding ueZeros
@@ -132,22 +99,22 @@ pub put-ue-spec : {M : Type 1} → statement M
 put-ue-spec =
     tie.close
     (tie.spec
-    refuse-requires
+    (λ c κs. search needs)
     returns
-    add-x
+    (λ c. search needs)
     sub-z
-    mul-size
-    add-size
-    has-room-requires
-    bytes-for-requires
-    refuse-requires-2
+    (λ c. search needs)
+    (λ c. search needs)
+    (λ c κs. search needs)
+    (λ c κs. search needs)
+    (λ c κs. search needs)
     returns-2
     fill-requires
-    cast-fill
+    (λ c. search needs)
     add-fill
-    add-fill-2
+    (λ c. search needs)
     fill-requires-2
-    cast-t11
+    (λ c. search needs)
     add-t20
-    same-length
+    (λ c. search needs)
     returns-3)

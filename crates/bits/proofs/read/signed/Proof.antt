@@ -12,15 +12,6 @@ use borrow.Author.Needs.{needs}
 use Rattle.bits.proofs.read.signed.Statement.{statement}
 use Rattle.bits.proofs.read.signed.Tie as tie
 
-add-result : tie.Need-add-result
-add-result c = search needs
-
-cast-result : tie.Need-cast-result
-cast-result c = search needs
-
-cast-result-2 : tie.Need-cast-result-2
-cast-result-2 c = search needs
-
 -- the machine's 0 - n is -n, which fits
 neg-fits : (n : ℕ) → n < 2 ^ 31 → SFits w32 (negℤ (pos n))
 neg-fits zero h = record { sfits = lit< tt }
@@ -49,4 +40,4 @@ returns-2 c =
 
 pub signed-spec : {M : Type 1} → statement M
 signed-spec =
-    tie.close (tie.spec add-result cast-result cast-result-2 sub-result returns returns-2)
+    tie.close (tie.spec (λ c. search needs) (λ c. search needs) (λ c. search needs) sub-result returns returns-2)

@@ -8,18 +8,6 @@ use borrow.Author.Needs.{needs}
 use Rattle.bits.proofs.read.value_at.Statement.{statement}
 use Rattle.bits.proofs.read.value_at.Tie as tie
 
-mul-result : tie.Need-mul-result
-mul-result c = search needs
-
-sub-result : tie.Need-sub-result
-sub-result c = search needs
-
-cast-result : tie.Need-cast-result
-cast-result c = search needs
-
-shr-result : tie.Need-shr-result
-shr-result c = search needs
-
 -- what the window holds from the code on, and from its set bit on
 small : (c : tie.Then1) → let a = c .before .before .args in a .w / 2 ^ (63 - 2 * a .z) ≡ 2 ^ a .z + bitsAt (a .s .now) (a .at + (a .z + 1)) (a .z)
 small c =
@@ -43,21 +31,6 @@ cast-result-2 c =
     let a = c .before .before .args in
     omega (arith, small c, pow-pos (a .z), code-lt (a .s .now) (a .at) (a .z) (c .before .before .pre .1))
 
-add-long-window : tie.Need-add-long-window
-add-long-window c = search needs
-
-long-window-requires : tie.Need-long-window-requires
-long-window-requires c κs = search needs
-
-sub-result-3 : tie.Need-sub-result-3
-sub-result-3 c = search needs
-
-cast-result-3 : tie.Need-cast-result-3
-cast-result-3 c = search needs
-
-shr-result-2 : tie.Need-shr-result-2
-shr-result-2 c = search needs
-
 sub-result-4 : tie.Need-sub-result-4
 sub-result-4 c = omega (arith, large c, pow-pos (c .before .before .before .args .z))
 
@@ -76,17 +49,17 @@ pub value-at-spec : {M : Type 1} → statement M
 value-at-spec =
     tie.close
     (tie.spec
-    mul-result
-    sub-result
-    cast-result
-    shr-result
+    (λ c. search needs)
+    (λ c. search needs)
+    (λ c. search needs)
+    (λ c. search needs)
     sub-result-2
     cast-result-2
-    add-long-window
-    long-window-requires
-    sub-result-3
-    cast-result-3
-    shr-result-2
+    (λ c. search needs)
+    (λ c κs. search needs)
+    (λ c. search needs)
+    (λ c. search needs)
+    (λ c. search needs)
     sub-result-4
     cast-result-4
     returns

@@ -11,15 +11,6 @@ returns : tie.Need-returns
 unfolding changeCycleWidth
 returns c = rw (eq-eqb _ _ (c .if1 .taken))
 
-add-groups : tie.Need-add-groups
-add-groups c = search needs
-
-sub-groups : tie.Need-sub-groups
-sub-groups c = search needs
-
-div-groups : tie.Need-div-groups
-div-groups c = search needs
-
 sub-result : tie.Need-sub-result
 sub-result c = leading-le 64 _
 
@@ -28,4 +19,4 @@ returns-2 c = let a = c .before .args in width-leading (a .size) (a .rate) (omeg
 
 pub change-cycle-width-spec : {M : Type 1} → statement M
 change-cycle-width-spec =
-    tie.close (tie.spec returns add-groups sub-groups div-groups sub-result returns-2)
+    tie.close (tie.spec returns (λ c. search needs) (λ c. search needs) (λ c. search needs) sub-result returns-2)

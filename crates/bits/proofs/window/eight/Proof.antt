@@ -7,51 +7,6 @@ use borrow.Author.Needs.{needs}
 use Rattle.bits.proofs.window.eight.Statement.{statement}
 use Rattle.bits.proofs.window.eight.Tie as tie
 
-one-requires : tie.Need-one-requires
-one-requires c κs = search needs
-
-add-one : tie.Need-add-one
-add-one c = search needs
-
-one-requires-2 : tie.Need-one-requires-2
-one-requires-2 c κs = search needs
-
-add-one-2 : tie.Need-add-one-2
-add-one-2 c = search needs
-
-one-requires-3 : tie.Need-one-requires-3
-one-requires-3 c κs = search needs
-
-add-one-3 : tie.Need-add-one-3
-add-one-3 c = search needs
-
-one-requires-4 : tie.Need-one-requires-4
-one-requires-4 c κs = search needs
-
-add-one-4 : tie.Need-add-one-4
-add-one-4 c = search needs
-
-one-requires-5 : tie.Need-one-requires-5
-one-requires-5 c κs = search needs
-
-add-one-5 : tie.Need-add-one-5
-add-one-5 c = search needs
-
-one-requires-6 : tie.Need-one-requires-6
-one-requires-6 c κs = search needs
-
-add-one-6 : tie.Need-add-one-6
-add-one-6 c = search needs
-
-one-requires-7 : tie.Need-one-requires-7
-one-requires-7 c κs = search needs
-
-add-one-7 : tie.Need-add-one-7
-add-one-7 c = search needs
-
-one-requires-8 : tie.Need-one-requires-8
-one-requires-8 c κs = search needs
-
 returns : tie.Need-returns
 returns c =
     let c1 = c .before .before .before .before .before .before .before in
@@ -76,19 +31,19 @@ pub eight-spec : {M : Type 1} → statement M
 eight-spec =
     tie.close
     (tie.spec
-    one-requires
-    add-one
-    one-requires-2
-    add-one-2
-    one-requires-3
-    add-one-3
-    one-requires-4
-    add-one-4
-    one-requires-5
-    add-one-5
-    one-requires-6
-    add-one-6
-    one-requires-7
-    add-one-7
-    one-requires-8
+    (λ c κs. search needs)
+    (λ c. search needs)
+    (λ c κs. search needs)
+    (λ c. search needs)
+    (λ c κs. search needs)
+    (λ c. search needs)
+    (λ c κs. search needs)
+    (λ c. search needs)
+    (λ c κs. search needs)
+    (λ c. search needs)
+    (λ c κs. search needs)
+    (λ c. search needs)
+    (λ c κs. search needs)
+    (λ c. search needs)
+    (λ c κs. search needs)
     returns)

@@ -20,20 +20,8 @@ loop-holds c = (search needs, refl)
 mul-g : tie.Need-mul-g Inv-loop μ-loop
 mul-g c = omega (arith, under-le _ _ _ 56 _ (c .before .loop .inv .1) (omega arith))
 
-add-one-or-zeros : tie.Need-add-one-or-zeros Inv-loop μ-loop
-add-one-or-zeros c = search needs
-
-one-or-zeros-requires : tie.Need-one-or-zeros-requires Inv-loop μ-loop
-one-or-zeros-requires c κs = search needs
-
 add-g : tie.Need-add-g Inv-loop μ-loop
 add-g c = omega (arith, under-le _ _ _ 56 _ (c .before .before .loop .inv .1) (omega arith), under _ _ 8 _ (c .one-or-zeros .ensures))
-
-add-j : tie.Need-add-j Inv-loop μ-loop
-add-j c = search needs
-
-loop-less : tie.Need-loop-less Inv-loop μ-loop
-loop-less c = search needs
 
 loop-again : tie.Need-loop-again Inv-loop μ-loop
 loop-again c = (search needs, joined _ _ _ _ 8 _ _ _ (omega arith) (omega arith) (c .before .before .loop .inv .1) (c .one-or-zeros .ensures))
@@ -51,10 +39,10 @@ eight-or-zeros-spec =
     μ-loop
     loop-holds
     mul-g
-    add-one-or-zeros
-    one-or-zeros-requires
+    (λ c. search needs)
+    (λ c κs. search needs)
     add-g
-    add-j
-    loop-less
+    (λ c. search needs)
+    (λ c. search needs)
     loop-again
     returns)

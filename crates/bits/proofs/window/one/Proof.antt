@@ -4,16 +4,10 @@ use Rattle.bits.proofs.Windows.{bits-byte}
 use Rattle.bits.proofs.window.one.Statement.{statement}
 use Rattle.bits.proofs.window.one.Tie as tie
 
-shared-slice-read-wide : tie.Need-shared-slice-read-wide
-shared-slice-read-wide c = search needs
-
-wide-requires : tie.Need-wide-requires
-wide-requires c κs = search needs
-
 returns : tie.Need-returns
 returns c =
     let a = c .before .before .before .args in
     c .wide .ensures ∙ sym (bits-byte (a .s .now) (a .i) (c .before .before .shared-slice-known .given (a .i) .fits))
 
 pub one-spec : {M : Type 1} → statement M
-one-spec = tie.close (tie.spec shared-slice-read-wide wide-requires returns)
+one-spec = tie.close (tie.spec (λ c. search needs) (λ c κs. search needs) returns)

@@ -6,9 +6,6 @@ use Rattle.bits.proofs.Windows.{bits-past}
 use Rattle.bits.proofs.window.one_or_zeros.Statement.{statement}
 use Rattle.bits.proofs.window.one_or_zeros.Tie as tie
 
-one-requires : tie.Need-one-requires
-one-requires c κs = search needs
-
 returns : tie.Need-returns
 returns c = search needs
 
@@ -16,4 +13,4 @@ returns-2 : tie.Need-returns-2
 returns-2 c = let a = c .before .before .args in sym (bits-past (a .s .now) (8 * a .i) 8 (omega arith))
 
 pub one-or-zeros-spec : {M : Type 1} → statement M
-one-or-zeros-spec = tie.close (tie.spec one-requires returns returns-2)
+one-or-zeros-spec = tie.close (tie.spec (λ c κs. search needs) returns returns-2)

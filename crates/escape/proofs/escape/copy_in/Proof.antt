@@ -17,21 +17,6 @@ abbrev μ-loop : tie.MeasureT-loop
 loop-holds : tie.Need-loop-holds Inv-loop μ-loop
 loop-holds c = (omega arith, refl, paste-zero (c .args .dst .now) (c .args .at) (c .args .src .now))
 
-shared-slice-read-dst : tie.Need-shared-slice-read-dst Inv-loop μ-loop
-shared-slice-read-dst c = search needs
-
-add-dst : tie.Need-add-dst Inv-loop μ-loop
-add-dst c = search needs
-
-slice-write-dst : tie.Need-slice-write-dst Inv-loop μ-loop
-slice-write-dst c = search needs
-
-add-j : tie.Need-add-j Inv-loop μ-loop
-add-j c = search needs
-
-loop-less : tie.Need-loop-less Inv-loop μ-loop
-loop-less c = search needs
-
 loop-again : tie.Need-loop-again Inv-loop μ-loop
 loop-again c =
     let l = c .before .before in
@@ -42,12 +27,6 @@ loop-again c =
       length-set (l .loop .dst) (a .at + j) b ∙ l .loop .inv .1,
       rw (l .loop .inv .2, add-one j) (paste-suc (a .dst .now) (a .at) (a .src .now) j 0 (omega arith) (omega arith)),
     )
-
-add-result : tie.Need-add-result Inv-loop μ-loop
-add-result c = search needs
-
-same-length : tie.Need-same-length Inv-loop μ-loop
-same-length c = search needs
 
 returns : tie.Need-returns Inv-loop μ-loop
 returns c =
@@ -62,12 +41,12 @@ copy-in-spec =
     Inv-loop
     μ-loop
     loop-holds
-    shared-slice-read-dst
-    add-dst
-    slice-write-dst
-    add-j
-    loop-less
+    (λ c. search needs)
+    (λ c. search needs)
+    (λ c. search needs)
+    (λ c. search needs)
+    (λ c. search needs)
     loop-again
-    add-result
-    same-length
+    (λ c. search needs)
+    (λ c. search needs)
     returns)

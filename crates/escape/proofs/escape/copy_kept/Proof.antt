@@ -23,18 +23,6 @@ returns c =
 loop-holds : tie.Need-loop-holds Inv-loop μ-loop
 loop-holds c = let a = c .before .before .before .args in started (a .unit .now) (a .from) (a .scratch .now) (omega arith)
 
-seek-requires : tie.Need-seek-requires Inv-loop μ-loop
-seek-requires c κs = search needs
-
-sub-copy-in : tie.Need-sub-copy-in Inv-loop μ-loop
-sub-copy-in c = search needs
-
-part-copy-in-start : tie.Need-part-copy-in-start Inv-loop μ-loop
-part-copy-in-start c = search needs
-
-part-copy-in-end : tie.Need-part-copy-in-end Inv-loop μ-loop
-part-copy-in-end c = search needs
-
 copy-in-requires : tie.Need-copy-in-requires Inv-loop μ-loop
 copy-in-requires c κs =
     let l = c .before .before .before .before in
@@ -56,15 +44,6 @@ returns-2 c =
     (length (a .unit .now)) (m .copy-in .result) (m .copy-in .last .1 .0) refl
     (none-left (a .unit .now) (l .loop .i) (t .before .seek .result) (t .before .seek .ensures) (omega arith))
     (omega arith) (m .copy-in .ensures .0) (m .copy-in .ensures .1)
-
-add-stop : tie.Need-add-stop Inv-loop μ-loop
-add-stop c = search needs
-
-sub-copy-in-2 : tie.Need-sub-copy-in-2 Inv-loop μ-loop
-sub-copy-in-2 c = search needs
-
-part-copy-in-start-2 : tie.Need-part-copy-in-start-2 Inv-loop μ-loop
-part-copy-in-start-2 c = search needs
 
 part-copy-in-end-2 : tie.Need-part-copy-in-end-2 Inv-loop μ-loop
 part-copy-in-end-2 c =
@@ -124,16 +103,16 @@ copy-kept-spec =
     μ-loop
     returns
     loop-holds
-    seek-requires
-    sub-copy-in
-    part-copy-in-start
-    part-copy-in-end
+    (λ c κs. search needs)
+    (λ c. search needs)
+    (λ c. search needs)
+    (λ c. search needs)
     copy-in-requires
     same-length
     returns-2
-    add-stop
-    sub-copy-in-2
-    part-copy-in-start-2
+    (λ c. search needs)
+    (λ c. search needs)
+    (λ c. search needs)
     part-copy-in-end-2
     copy-in-requires-2
     add-i

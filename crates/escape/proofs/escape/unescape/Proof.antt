@@ -18,20 +18,11 @@ answered u = u .answer
 abbrev leaves : Unescaped → List ℕ
 leaves u = u .left
 
-refuse-requires : tie.Need-refuse-requires
-refuse-requires c κs = search needs
-
 returns : tie.Need-returns
 returns c =
     let a = c .before .before .before .before .args in
     let e = too-large (a .unit .now) (a .from) (a .scratch .now) (omega arith) in
     (rw (c .refuse .ensures) (sym (ap answered e)), sym (ap leaves e))
-
-cast-refuse : tie.Need-cast-refuse
-cast-refuse c = search needs
-
-refuse-requires-2 : tie.Need-refuse-requires-2
-refuse-requires-2 c κs = search needs
 
 returns-2 : tie.Need-returns-2
 returns-2 c =
@@ -39,12 +30,6 @@ returns-2 c =
     let e = too-short (a .unit .now) (a .from) (a .scratch .now) (omega arith) (omega arith) in
     let small : length (a .unit .now) < 9223372036854775808 = omega arith in
     (rw (c .refuse2 .ensures, toZ-pos w64 small) (sym (ap answered e)), sym (ap leaves e))
-
-copy-kept-requires : tie.Need-copy-kept-requires
-copy-kept-requires c κs = search needs
-
-same-length : tie.Need-same-length
-same-length c = search needs
 
 returns-3 : tie.Need-returns-3
 returns-3 c =
@@ -57,11 +42,11 @@ pub unescape-spec : {M : Type 1} → statement M
 unescape-spec =
     tie.close
     (tie.spec
-    refuse-requires
+    (λ c κs. search needs)
     returns
-    cast-refuse
-    refuse-requires-2
+    (λ c. search needs)
+    (λ c κs. search needs)
     returns-2
-    copy-kept-requires
-    same-length
+    (λ c κs. search needs)
+    (λ c. search needs)
     returns-3)

@@ -13,9 +13,6 @@ returns-2 : tie.Need-returns-2
 unfolding heard
 returns-2 c = rw (ne-eqb (c .before .before .args .answer) 0 (c .before .if1 .left), eq-eqb (c .before .before .args .answer) 1 (c .if2 .taken))
 
-no-prefix-requires : tie.Need-no-prefix-requires
-no-prefix-requires c κs = search needs
-
 returns-3 : tie.Need-returns-3
 unfolding heard
 returns-3 c = rw (ne-eqb (c .before .before .before .before .args .answer) 0 (c .before .before .before .if1 .left), ne-eqb (c .before .before .before .before .args .answer) 1 (c .before .before .if2 .left), eq-eqb (c .before .before .before .before .args .answer) 2 (c .before .if3 .taken), c .no-prefix .ensures)
@@ -25,4 +22,4 @@ unfolding heard
 returns-4 c = rw (toZ-ofZ (c .before .before .before .fits .value), ne-eqb (c .before .before .before .args .answer) 0 (c .before .before .if1 .left), ne-eqb (c .before .before .before .args .answer) 1 (c .before .if2 .left), ne-eqb (c .before .before .before .args .answer) 2 (c .if3 .left))
 
 pub hear-spec : {M : Type 1} → statement M
-hear-spec = tie.close (tie.spec returns returns-2 no-prefix-requires returns-3 returns-4)
+hear-spec = tie.close (tie.spec returns returns-2 (λ c κs. search needs) returns-3 returns-4)

@@ -3,14 +3,8 @@ use borrow.Author.Needs.{needs}
 use Rattle.exports.proofs.listings.tuz_unit_line.Statement.{statement}
 use Rattle.exports.proofs.listings.tuz_unit_line.Tie as tie
 
-hear-requires : tie.Need-hear-requires
-hear-requires c κs = search needs
-
-unit-line-requires : tie.Need-unit-line-requires
-unit-line-requires c κs = search needs
-
 returns : tie.Need-returns
 returns c = rw (c .before .before .hear .ensures, toZ-ofZ (c .before .before .before .before .fits .value)) at (c .unit-line .ensures)
 
 pub tuz-unit-line-spec : {M : Type 1} → statement M
-tuz-unit-line-spec = tie.close (tie.spec hear-requires unit-line-requires returns)
+tuz-unit-line-spec = tie.close (tie.spec (λ c κs. search needs) (λ c κs. search needs) returns)

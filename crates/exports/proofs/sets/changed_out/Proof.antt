@@ -6,12 +6,6 @@ use borrow.Author.Needs.{needs}
 use Rattle.exports.proofs.sets.changed_out.Statement.{statement}
 use Rattle.exports.proofs.sets.changed_out.Tie as tie
 
-enum-known-c : tie.Need-enum-known-c
-enum-known-c c = search needs
-
-cast-t4 : tie.Need-cast-t4
-cast-t4 c = search needs
-
 enum-told : tie.Need-enum-told
 enum-told c = search needs
 
@@ -26,4 +20,4 @@ unfolding changedOut
 returns-2 c = rw (c .enum-told .given .1)
 
 pub changed-out-spec : {M : Type 1} → statement M
-changed-out-spec = tie.close (tie.spec enum-known-c cast-t4 enum-told returns returns-2)
+changed-out-spec = tie.close (tie.spec (λ c. search needs) (λ c. search needs) enum-told returns returns-2)

@@ -7,17 +7,8 @@ use Rattle.exports.proofs.sets.picture_out.Lts as lts
 use Rattle.exports.proofs.sets.no_picture.Reads as no-picture-reads
 use Rattle.table.proofs.words.picture_in.Reads as picture-in-reads
 
-picture-in-requires : tie.Need-picture-in-requires
-picture-in-requires c κs = search needs
-
-enum-known-picture : tie.Need-enum-known-picture
-enum-known-picture c = search needs
-
 enum-told : tie.Need-enum-told
 enum-told c = search needs
-
-no-picture-requires : tie.Need-no-picture-requires
-no-picture-requires c κs = search needs
 
 returns : tie.Need-returns
 unfolding pictureOut
@@ -31,9 +22,9 @@ pub picture-out-spec : {M : Type 1} → statement M
 picture-out-spec =
     tie.close
     (tie.spec
-    picture-in-requires
-    enum-known-picture
+    (λ c κs. search needs)
+    (λ c. search needs)
     enum-told
-    no-picture-requires
+    (λ c κs. search needs)
     returns
     returns-2)

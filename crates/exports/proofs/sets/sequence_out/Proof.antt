@@ -7,17 +7,8 @@ use Rattle.exports.proofs.sets.sequence_out.Lts as lts
 use Rattle.exports.proofs.sets.no_sequence.Reads as no-sequence-reads
 use Rattle.table.proofs.words.sequence_in.Reads as sequence-in-reads
 
-sequence-in-requires : tie.Need-sequence-in-requires
-sequence-in-requires c κs = search needs
-
-enum-known-sequence : tie.Need-enum-known-sequence
-enum-known-sequence c = search needs
-
 enum-told : tie.Need-enum-told
 enum-told c = search needs
-
-no-sequence-requires : tie.Need-no-sequence-requires
-no-sequence-requires c κs = search needs
 
 returns : tie.Need-returns
 unfolding sequenceOut
@@ -31,9 +22,9 @@ pub sequence-out-spec : {M : Type 1} → statement M
 sequence-out-spec =
     tie.close
     (tie.spec
-    sequence-in-requires
-    enum-known-sequence
+    (λ c κs. search needs)
+    (λ c. search needs)
     enum-told
-    no-sequence-requires
+    (λ c κs. search needs)
     returns
     returns-2)

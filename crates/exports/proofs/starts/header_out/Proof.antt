@@ -6,24 +6,6 @@ use borrow.Author.Needs.{needs}
 use Rattle.exports.proofs.starts.header_out.Statement.{statement}
 use Rattle.exports.proofs.starts.header_out.Tie as tie
 
-enum-known-a : tie.Need-enum-known-a
-enum-known-a c = search needs
-
-type-id-requires : tie.Need-type-id-requires
-type-id-requires c κs = search needs
-
-nal-ref-idc-requires : tie.Need-nal-ref-idc-requires
-nal-ref-idc-requires c κs = search needs
-
-has-extension-requires : tie.Need-has-extension-requires
-has-extension-requires c κs = search needs
-
-enum-known-a-2 : tie.Need-enum-known-a-2
-enum-known-a-2 c = search needs
-
-cast-t8 : tie.Need-cast-t8
-cast-t8 c = search needs
-
 returns : tie.Need-returns
 unfolding headerOut
 returns c = rw (c .has-extension .ensures, c .before .nal-ref-idc .ensures, c .before .before .type-id .ensures, c .before .before .before .before .a .given .1)
@@ -38,11 +20,11 @@ pub header-out-spec : {M : Type 1} → statement M
 header-out-spec =
     tie.close
     (tie.spec
-    enum-known-a
-    type-id-requires
-    nal-ref-idc-requires
-    has-extension-requires
-    enum-known-a-2
-    cast-t8
+    (λ c. search needs)
+    (λ c κs. search needs)
+    (λ c κs. search needs)
+    (λ c κs. search needs)
+    (λ c. search needs)
+    (λ c. search needs)
     returns
     returns-2)

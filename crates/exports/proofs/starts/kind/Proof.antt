@@ -40,9 +40,6 @@ has-name (UnitType.Reserved id) h = absurd (miss others 20 tt h)
 enum-told : tie.Need-enum-told
 enum-told c = search needs
 
-enum-told-2 : tie.Need-enum-told-2
-enum-told-2 c = search needs
-
 returns : tie.Need-returns
 returns c = rw (c .enum-told .given .1)
 
@@ -53,4 +50,4 @@ returns-3 : tie.Need-returns-3
 returns-3 c = sym (has-name (c .before .args .t) (c .match .keys3))
 
 pub kind-spec : {M : Type 1} → statement M
-kind-spec = tie.close (tie.spec enum-told enum-told-2 returns returns-2 returns-3)
+kind-spec = tie.close (tie.spec enum-told (λ c. search needs) returns returns-2 returns-3)

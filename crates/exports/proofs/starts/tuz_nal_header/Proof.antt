@@ -4,14 +4,8 @@ use borrow.Author.Needs.{needs}
 use Rattle.exports.proofs.starts.tuz_nal_header.Statement.{statement}
 use Rattle.exports.proofs.starts.tuz_nal_header.Tie as tie
 
-new-requires : tie.Need-new-requires
-new-requires c κs = search needs
-
-header-out-requires : tie.Need-header-out-requires
-header-out-requires c κs = search needs
-
 returns : tie.Need-returns
 returns c = c .header-out .ensures ∙ ap headerOut (c .before .new .ensures)
 
 pub tuz-nal-header-spec : {M : Type 1} → statement M
-tuz-nal-header-spec = tie.close (tie.spec new-requires header-out-requires returns)
+tuz-nal-header-spec = tie.close (tie.spec (λ c κs. search needs) (λ c κs. search needs) returns)

@@ -25,37 +25,16 @@ abbrev μ-loop : tie.MeasureT-loop
 loop-holds : tie.Need-loop-holds Inv-loop μ-loop
 loop-holds c = (omega arith, rw sub-zero)
 
-ue-requires : tie.Need-ue-requires Inv-loop μ-loop
-ue-requires c κs = search needs
-
-enum-known-v : tie.Need-enum-known-v Inv-loop μ-loop
-enum-known-v c = search needs
-
 enum-told : tie.Need-enum-told Inv-loop μ-loop
 enum-told c = search needs
-
-pack-requires : tie.Need-pack-requires Inv-loop μ-loop
-pack-requires c κs = search needs
 
 returns : tie.Need-returns Inv-loop μ-loop
 returns c =
     c .pack .ensures ∙ stop _ _ _ _ _ _ (c .before .before .before .before .before .loop .inv .1) _ (omega arith) (sym (c .before .before .before .ue .ensures) ∙ ap asRead (c .before .enum-told .given .1))
 
-wrapping-add-u32-requires : tie.Need-wrapping-add-u32-requires Inv-loop μ-loop
-wrapping-add-u32-requires c κs = search needs
-
-add-i : tie.Need-add-i Inv-loop μ-loop
-add-i c = search needs
-
-loop-less : tie.Need-loop-less Inv-loop μ-loop
-loop-less c = search needs
-
 loop-again : tie.Need-loop-again Inv-loop μ-loop
 loop-again c =
     (omega arith, rw (c .wrapping-add-u32 .ensures) (step _ _ _ _ _ _ (c .before .before .before .before .before .before .loop .inv .1) _ _ (omega arith) (sym (c .before .before .before .before .ue .ensures) ∙ ap asRead (c .before .before .v .given .1))))
-
-pack-requires-2 : tie.Need-pack-requires-2 Inv-loop μ-loop
-pack-requires-2 c κs = search needs
 
 returns-2 : tie.Need-returns-2 Inv-loop μ-loop
 returns-2 c = c .pack2 .ensures ∙ last _ _ _ _ _ _ (c .before .before .loop .inv .1) (omega arith)
@@ -67,14 +46,14 @@ tuz-ue-run-spec =
     Inv-loop
     μ-loop
     loop-holds
-    ue-requires
-    enum-known-v
+    (λ c κs. search needs)
+    (λ c. search needs)
     enum-told
-    pack-requires
+    (λ c κs. search needs)
     returns
-    wrapping-add-u32-requires
-    add-i
-    loop-less
+    (λ c κs. search needs)
+    (λ c. search needs)
+    (λ c. search needs)
     loop-again
-    pack-requires-2
+    (λ c κs. search needs)
     returns-2)

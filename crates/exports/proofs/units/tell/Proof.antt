@@ -6,33 +6,6 @@ use borrow.Author.Needs.{needs}
 use Rattle.exports.proofs.units.tell.Statement.{statement}
 use Rattle.exports.proofs.units.tell.Tie as tie
 
-enum-known-a : tie.Need-enum-known-a
-enum-known-a c = search needs
-
-no-prefix-requires : tie.Need-no-prefix-requires
-no-prefix-requires c κs = search needs
-
-enum-known-a-2 : tie.Need-enum-known-a-2
-enum-known-a-2 c = search needs
-
-enum-known-a-3 : tie.Need-enum-known-a-3
-enum-known-a-3 c = search needs
-
-cast-t8 : tie.Need-cast-t8
-cast-t8 c = search needs
-
-no-prefix-requires-2 : tie.Need-no-prefix-requires-2
-no-prefix-requires-2 c κs = search needs
-
-enum-known-a-4 : tie.Need-enum-known-a-4
-enum-known-a-4 c = search needs
-
-cast-t10 : tie.Need-cast-t10
-cast-t10 c = search needs
-
-no-prefix-requires-3 : tie.Need-no-prefix-requires-3
-no-prefix-requires-3 c κs = search needs
-
 returns : tie.Need-returns
 unfolding told
 returns c = rw (c .no-prefix .ensures, c .before .before .a .given .1)
@@ -55,15 +28,15 @@ pub tell-spec : {M : Type 1} → statement M
 tell-spec =
     tie.close
     (tie.spec
-    enum-known-a
-    no-prefix-requires
-    enum-known-a-2
-    enum-known-a-3
-    cast-t8
-    no-prefix-requires-2
-    enum-known-a-4
-    cast-t10
-    no-prefix-requires-3
+    (λ c. search needs)
+    (λ c κs. search needs)
+    (λ c. search needs)
+    (λ c. search needs)
+    (λ c. search needs)
+    (λ c κs. search needs)
+    (λ c. search needs)
+    (λ c. search needs)
+    (λ c κs. search needs)
     returns
     returns-2
     returns-3

@@ -4,15 +4,6 @@ use borrow.Author.Needs.{needs}
 use Rattle.exports.proofs.units.tuz_body.Statement.{statement}
 use Rattle.exports.proofs.units.tuz_body.Tie as tie
 
-read-body-into-requires : tie.Need-read-body-into-requires
-read-body-into-requires c κs = search needs
-
-tell-requires : tie.Need-tell-requires
-tell-requires c κs = search needs
-
-same-length : tie.Need-same-length
-same-length c = search needs
-
 returns : tie.Need-returns
 unfolding unitOut
 returns c =
@@ -20,4 +11,4 @@ returns c =
     ((c .tell .ensures ∙ ap told (g .answered), g .left), g .words)
 
 pub tuz-body-spec : {M : Type 1} → statement M
-tuz-body-spec = tie.close (tie.spec read-body-into-requires tell-requires same-length returns)
+tuz-body-spec = tie.close (tie.spec (λ c κs. search needs) (λ c κs. search needs) (λ c. search needs) returns)

@@ -6,17 +6,8 @@ use borrow.Author.Needs.{needs}
 use Rattle.exports.proofs.walks.come.Statement.{statement}
 use Rattle.exports.proofs.walks.come.Tie as tie
 
-enum-known-s : tie.Need-enum-known-s
-enum-known-s c = search needs
-
 enum-told : tie.Need-enum-told
 enum-told c = search needs
-
-enum-known-s-2 : tie.Need-enum-known-s-2
-enum-known-s-2 c = search needs
-
-cast-t7 : tie.Need-cast-t7
-cast-t7 c = search needs
 
 returns : tie.Need-returns
 unfolding came
@@ -34,4 +25,4 @@ returns-3 c =
 
 pub come-spec : {M : Type 1} → statement M
 come-spec =
-    tie.close (tie.spec enum-known-s enum-told enum-known-s-2 cast-t7 returns returns-2 returns-3)
+    tie.close (tie.spec (λ c. search needs) enum-told (λ c. search needs) (λ c. search needs) returns returns-2 returns-3)

@@ -4,19 +4,10 @@ use borrow.Author.Needs.{needs}
 use Rattle.exports.proofs.walks.tuz_walk.Statement.{statement}
 use Rattle.exports.proofs.walks.tuz_walk.Tie as tie
 
-walk-into-requires : tie.Need-walk-into-requires
-walk-into-requires c κs = search needs
-
-walk-told-requires : tie.Need-walk-told-requires
-walk-told-requires c κs = search needs
-
-same-length : tie.Need-same-length
-same-length c = search needs
-
 returns : tie.Need-returns
 returns c =
     let g = c .before .before .before .walk-into .ensures in
     ((c .walk-told .ensures ∙ ap₂ walkTold (g .step) (g .answered), g .left), g .words)
 
 pub tuz-walk-spec : {M : Type 1} → statement M
-tuz-walk-spec = tie.close (tie.spec walk-into-requires walk-told-requires same-length returns)
+tuz-walk-spec = tie.close (tie.spec (λ c κs. search needs) (λ c κs. search needs) (λ c. search needs) returns)

@@ -6,12 +6,6 @@ use borrow.Author.Needs.{needs}
 use Rattle.exports.proofs.walks.walk_told.Statement.{statement}
 use Rattle.exports.proofs.walks.walk_told.Tie as tie
 
-come-requires : tie.Need-come-requires
-come-requires c κs = search needs
-
-tell-requires : tie.Need-tell-requires
-tell-requires c κs = search needs
-
 returns : tie.Need-returns
 unfolding walkTold
 returns c =
@@ -19,4 +13,4 @@ returns c =
     rw (toZ-ofZ f, c .before .before .come .ensures, c .before .tell .ensures)
 
 pub walk-told-spec : {M : Type 1} → statement M
-walk-told-spec = tie.close (tie.spec come-requires tell-requires returns)
+walk-told-spec = tie.close (tie.spec (λ c κs. search needs) (λ c κs. search needs) returns)

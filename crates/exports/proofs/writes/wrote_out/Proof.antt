@@ -6,15 +6,6 @@ use borrow.Author.Needs.{needs}
 use Rattle.exports.proofs.writes.wrote_out.Statement.{statement}
 use Rattle.exports.proofs.writes.wrote_out.Tie as tie
 
-enum-known-a : tie.Need-enum-known-a
-enum-known-a c = search needs
-
-enum-known-a-2 : tie.Need-enum-known-a-2
-enum-known-a-2 c = search needs
-
-cast-t5 : tie.Need-cast-t5
-cast-t5 c = search needs
-
 returns : tie.Need-returns
 unfolding wroteOut
 returns c = rw (c .before .a .given .1)
@@ -26,4 +17,4 @@ returns-2 c =
     rw (toZ-ofZ f, c .before .before .before .a2 .given .1)
 
 pub wrote-out-spec : {M : Type 1} → statement M
-wrote-out-spec = tie.close (tie.spec enum-known-a enum-known-a-2 cast-t5 returns returns-2)
+wrote-out-spec = tie.close (tie.spec (λ c. search needs) (λ c. search needs) (λ c. search needs) returns returns-2)

@@ -4,9 +4,6 @@ use borrow.Author.Needs.{needs}
 use Rattle.fields.proofs.quant.lowest.Statement.{statement}
 use Rattle.fields.proofs.quant.lowest.Tie as tie
 
-cast-result : tie.Need-cast-result
-cast-result c = search needs
-
 mul-result : tie.Need-mul-result
 mul-result c = product-fits (c .args .depth) (omega arith)
 
@@ -17,4 +14,4 @@ returns : tie.Need-returns
 returns c = minus-is (c .args .depth) (omega arith)
 
 pub lowest-spec : {M : Type 1} → statement M
-lowest-spec = tie.close (tie.spec cast-result mul-result sub-result returns)
+lowest-spec = tie.close (tie.spec (λ c. search needs) mul-result sub-result returns)

@@ -5,15 +5,6 @@ use borrow.Author.Needs.{needs}
 use Rattle.fields.proofs.quant.qp_fits.Statement.{statement}
 use Rattle.fields.proofs.quant.qp_fits.Tie as tie
 
-lowest-requires : tie.Need-lowest-requires
-lowest-requires c κs = search needs
-
-level-requires : tie.Need-level-requires
-level-requires c κs = search needs
-
-between-requires : tie.Need-between-requires
-between-requires c κs = search needs
-
 returns : tie.Need-returns
 returns c =
     let i : SFits w32 (c .before .before .before .before .before .args .x .picture .«pic_init_qp_minus26») = search needs in
@@ -22,4 +13,4 @@ returns c =
     rw (toZ-ofZ l, toZ-ofZ v, c .before .before .before .before .lowest .ensures, c .before .level .ensures, toZ-ofZ i, toZ-ofZ (c .before .before .before .before .before .fits .d)) at (c .between .ensures)
 
 pub qp-fits-spec : {M : Type 1} → statement M
-qp-fits-spec = tie.close (tie.spec lowest-requires level-requires between-requires returns)
+qp-fits-spec = tie.close (tie.spec (λ c κs. search needs) (λ c κs. search needs) (λ c κs. search needs) returns)

@@ -5,12 +5,6 @@ use borrow.Author.Needs.{needs}
 use Rattle.fields.proofs.quant.qs_fits.Statement.{statement}
 use Rattle.fields.proofs.quant.qs_fits.Tie as tie
 
-level-requires : tie.Need-level-requires
-level-requires c κs = search needs
-
-between-requires : tie.Need-between-requires
-between-requires c κs = search needs
-
 returns : tie.Need-returns
 returns c =
     let i : SFits w32 (c .before .before .before .before .args .x .picture .«pic_init_qs_minus26») = search needs in
@@ -18,4 +12,4 @@ returns c =
     rw (toZ-ofZ v, c .before .level .ensures, toZ-ofZ i, toZ-ofZ (c .before .before .before .before .fits .d)) at (c .between .ensures)
 
 pub qs-fits-spec : {M : Type 1} → statement M
-qs-fits-spec = tie.close (tie.spec level-requires between-requires returns)
+qs-fits-spec = tie.close (tie.spec (λ c κs. search needs) (λ c κs. search needs) returns)

@@ -5,15 +5,6 @@ use borrow.Author.Needs.{needs}
 use Rattle.fields.proofs.read.bits_if.Statement.{statement}
 use Rattle.fields.proofs.read.bits_if.Tie as tie
 
-bits-requires : tie.Need-bits-requires
-bits-requires c κs = search needs
-
-marked-requires : tie.Need-marked-requires
-marked-requires c κs = search needs
-
-absent-requires : tie.Need-absent-requires
-absent-requires c κs = search needs
-
 returns : tie.Need-returns
 unfolding u
 returns c = c .marked .ensures ∙ number-there _ _ _ _ _ (c .before .before .if1 .taken) (c .before .bits .ensures)
@@ -22,4 +13,4 @@ returns-2 : tie.Need-returns-2
 returns-2 c = c .absent .ensures ∙ number-absent _ _ _ _ (c .before .if1 .left)
 
 pub bits-if-spec : {M : Type 1} → statement M
-bits-if-spec = tie.close (tie.spec bits-requires marked-requires absent-requires returns returns-2)
+bits-if-spec = tie.close (tie.spec (λ c κs. search needs) (λ c κs. search needs) (λ c κs. search needs) returns returns-2)

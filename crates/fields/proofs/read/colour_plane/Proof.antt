@@ -12,24 +12,12 @@ use borrow.Author.Needs.{needs}
 use Rattle.fields.proofs.read.colour_plane.Statement.{statement}
 use Rattle.fields.proofs.read.colour_plane.Tie as tie
 
-bits-requires : tie.Need-bits-requires
-bits-requires c κs = search needs
-
-enum-known-a : tie.Need-enum-known-a
-enum-known-a c = search needs
-
 enum-told : tie.Need-enum-told
 enum-told c = search needs
 
 returns : tie.Need-returns
 unfolding u
 returns c = test-none _ _ _ _ _ _ (c .before .before .bits .ensures) (ap asRead (c .enum-told .given .1))
-
-cast-refuse-at : tie.Need-cast-refuse-at
-cast-refuse-at c = search needs
-
-refuse-at-requires : tie.Need-refuse-at-requires
-refuse-at-requires c κs = search needs
 
 returns-2 : tie.Need-returns-2
 unfolding u
@@ -45,11 +33,11 @@ pub colour-plane-spec : {M : Type 1} → statement M
 colour-plane-spec =
     tie.close
     (tie.spec
-    bits-requires
-    enum-known-a
+    (λ c κs. search needs)
+    (λ c. search needs)
     enum-told
     returns
-    cast-refuse-at
-    refuse-at-requires
+    (λ c. search needs)
+    (λ c κs. search needs)
     returns-2
     returns-3)

@@ -5,15 +5,6 @@ use borrow.Author.Needs.{needs}
 use Rattle.fields.proofs.read.flag_if.Statement.{statement}
 use Rattle.fields.proofs.read.flag_if.Tie as tie
 
-flag-requires : tie.Need-flag-requires
-flag-requires c κs = search needs
-
-marked-flag-requires : tie.Need-marked-flag-requires
-marked-flag-requires c κs = search needs
-
-absent-flag-requires : tie.Need-absent-flag-requires
-absent-flag-requires c κs = search needs
-
 returns : tie.Need-returns
 unfolding flag
 returns c = c .marked-flag .ensures ∙ flag-there _ _ _ _ (c .before .before .if1 .taken) (c .before .flag .ensures)
@@ -23,4 +14,4 @@ returns-2 c = c .absent-flag .ensures ∙ flag-absent _ _ _ (c .before .if1 .lef
 
 pub flag-if-spec : {M : Type 1} → statement M
 flag-if-spec =
-    tie.close (tie.spec flag-requires marked-flag-requires absent-flag-requires returns returns-2)
+    tie.close (tie.spec (λ c κs. search needs) (λ c κs. search needs) (λ c κs. search needs) returns returns-2)

@@ -4,9 +4,6 @@ use borrow.Author.Needs.{needs}
 use Rattle.fields.proofs.read.given.Statement.{statement}
 use Rattle.fields.proofs.read.given.Tie as tie
 
-ue-requires : tie.Need-ue-requires
-ue-requires c κs = search needs
-
 returns : tie.Need-returns
 unfolding ue
 returns c = given-there _ _ _ _ _ _ _ (c .before .if1 .taken) (c .ue .ensures)
@@ -15,4 +12,4 @@ returns-2 : tie.Need-returns-2
 returns-2 c = given-absent _ _ _ _ _ _ (c .if1 .left)
 
 pub given-spec : {M : Type 1} → statement M
-given-spec = tie.close (tie.spec ue-requires returns returns-2)
+given-spec = tie.close (tie.spec (λ c κs. search needs) returns returns-2)

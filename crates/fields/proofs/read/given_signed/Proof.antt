@@ -3,9 +3,6 @@ use borrow.Author.Needs.{needs}
 use Rattle.fields.proofs.read.given_signed.Statement.{statement}
 use Rattle.fields.proofs.read.given_signed.Tie as tie
 
-code-requires : tie.Need-code-requires
-code-requires c κs = search needs
-
 returns : tie.Need-returns
 returns c = given-there _ _ _ _ _ _ _ (c .before .if1 .taken) (c .code .ensures)
 
@@ -13,4 +10,4 @@ returns-2 : tie.Need-returns-2
 returns-2 c = given-absent _ _ _ _ _ _ (c .if1 .left)
 
 pub given-signed-spec : {M : Type 1} → statement M
-given-signed-spec = tie.close (tie.spec code-requires returns returns-2)
+given-signed-spec = tie.close (tie.spec (λ c κs. search needs) returns returns-2)

@@ -4,9 +4,6 @@ use borrow.Author.Needs.{needs}
 use Rattle.fields.proofs.read.not_scalable.Statement.{statement}
 use Rattle.fields.proofs.read.not_scalable.Tie as tie
 
-refuse-at-requires : tie.Need-refuse-at-requires
-refuse-at-requires c κs = search needs
-
 returns : tie.Need-returns
 unfolding notScalable test nothing
 returns c = λ s. rw (c .refuse-at .ensures, c .before .if1 .taken)
@@ -16,4 +13,4 @@ unfolding notScalable test nothing
 returns-2 c = λ s. rw (c .if1 .left)
 
 pub not-scalable-spec : {M : Type 1} → statement M
-not-scalable-spec = tie.close (tie.spec refuse-at-requires returns returns-2)
+not-scalable-spec = tie.close (tie.spec (λ c κs. search needs) returns returns-2)

@@ -5,15 +5,6 @@ use borrow.Author.Needs.{needs}
 use Rattle.fields.proofs.read.number_if.Statement.{statement}
 use Rattle.fields.proofs.read.number_if.Tie as tie
 
-ue-requires : tie.Need-ue-requires
-ue-requires c κs = search needs
-
-marked-requires : tie.Need-marked-requires
-marked-requires c κs = search needs
-
-absent-requires : tie.Need-absent-requires
-absent-requires c κs = search needs
-
 returns : tie.Need-returns
 unfolding ue
 returns c = c .marked .ensures ∙ number-there _ _ _ _ _ (c .before .before .if1 .taken) (c .before .ue .ensures)
@@ -22,4 +13,4 @@ returns-2 : tie.Need-returns-2
 returns-2 c = c .absent .ensures ∙ number-absent _ _ _ _ (c .before .if1 .left)
 
 pub number-if-spec : {M : Type 1} → statement M
-number-if-spec = tie.close (tie.spec ue-requires marked-requires absent-requires returns returns-2)
+number-if-spec = tie.close (tie.spec (λ c κs. search needs) (λ c κs. search needs) (λ c κs. search needs) returns returns-2)

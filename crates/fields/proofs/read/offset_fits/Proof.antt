@@ -6,11 +6,8 @@ use Rattle.fields.proofs.read.offset_fits.Tie as tie
 cast-between : tie.Need-cast-between
 cast-between c = wide-fits (c .fits .d)
 
-between-requires : tie.Need-between-requires
-between-requires c κs = search needs
-
 returns : tie.Need-returns
 returns c = rw (wide-is (c .before .fits .d)) at (c .between .ensures)
 
 pub offset-fits-spec : {M : Type 1} → statement M
-offset-fits-spec = tie.close (tie.spec cast-between between-requires returns)
+offset-fits-spec = tie.close (tie.spec cast-between (λ c κs. search needs) returns)

@@ -11,24 +11,12 @@ use borrow.Author.Needs.{needs}
 use Rattle.fields.proofs.read.tested.Statement.{statement}
 use Rattle.fields.proofs.read.tested.Tie as tie
 
-ue-requires : tie.Need-ue-requires
-ue-requires c κs = search needs
-
-enum-known-a : tie.Need-enum-known-a
-enum-known-a c = search needs
-
 enum-told : tie.Need-enum-told
 enum-told c = search needs
 
 returns : tie.Need-returns
 unfolding ue
 returns c = test-none _ _ _ _ _ _ (c .before .before .ue .ensures) (ap asRead (c .enum-told .given .1))
-
-cast-refuse-at : tie.Need-cast-refuse-at
-cast-refuse-at c = search needs
-
-refuse-at-requires : tie.Need-refuse-at-requires
-refuse-at-requires c κs = search needs
 
 returns-2 : tie.Need-returns-2
 unfolding ue
@@ -44,11 +32,11 @@ pub tested-spec : {M : Type 1} → statement M
 tested-spec =
     tie.close
     (tie.spec
-    ue-requires
-    enum-known-a
+    (λ c κs. search needs)
+    (λ c. search needs)
     enum-told
     returns
-    cast-refuse-at
-    refuse-at-requires
+    (λ c. search needs)
+    (λ c κs. search needs)
     returns-2
     returns-3)

@@ -4,15 +4,6 @@ use borrow.Author.Needs.{needs}
 use Rattle.fields.proofs.read.tested_if.Statement.{statement}
 use Rattle.fields.proofs.read.tested_if.Tie as tie
 
-tested-requires : tie.Need-tested-requires
-tested-requires c κs = search needs
-
-marked-requires : tie.Need-marked-requires
-marked-requires c κs = search needs
-
-absent-requires : tie.Need-absent-requires
-absent-requires c κs = search needs
-
 returns : tie.Need-returns
 returns c = c .marked .ensures ∙ number-there _ _ _ _ _ (c .before .before .if1 .taken) (c .before .tested .ensures)
 
@@ -21,4 +12,4 @@ returns-2 c = c .absent .ensures ∙ number-absent _ _ _ _ (c .before .if1 .left
 
 pub tested-if-spec : {M : Type 1} → statement M
 tested-if-spec =
-    tie.close (tie.spec tested-requires marked-requires absent-requires returns returns-2)
+    tie.close (tie.spec (λ c κs. search needs) (λ c κs. search needs) (λ c κs. search needs) returns returns-2)

@@ -6,15 +6,6 @@ use borrow.Author.Needs.{needs}
 use Rattle.fields.proofs.signed.code.Statement.{statement}
 use Rattle.fields.proofs.signed.code.Tie as tie
 
-se-requires : tie.Need-se-requires
-se-requires c κs = search needs
-
-enum-known-value : tie.Need-enum-known-value
-enum-known-value c = search needs
-
-enum-known-r : tie.Need-enum-known-r
-enum-known-r c = search needs
-
 returns : tie.Need-returns
 unfolding se
 returns c =
@@ -26,4 +17,4 @@ unfolding se
 returns-2 c = rw (← c .before .before .before .se .ensures, c .before .r .given .1)
 
 pub code-spec : {M : Type 1} → statement M
-code-spec = tie.close (tie.spec se-requires enum-known-value enum-known-r returns returns-2)
+code-spec = tie.close (tie.spec (λ c κs. search needs) (λ c. search needs) (λ c. search needs) returns returns-2)

@@ -13,29 +13,11 @@ use Rattle.header.proofs.follows.any_after.Tie as tie
 returns : tie.Need-returns
 returns c = sym (after-end _ _ (c .if1 .taken))
 
-sub-left : tie.Need-sub-left
-sub-left c = search needs
-
-cast-left : tie.Need-cast-left
-cast-left c = search needs
-
-shl-left : tie.Need-shl-left
-shl-left c = search needs
-
-shared-slice-read-if2 : tie.Need-shared-slice-read-if2
-shared-slice-read-if2 c = search needs
-
 rem-if2 : tie.Need-rem-if2
 rem-if2 c = rw (low-bits (c .before .before .before .args .at)) (pow-pos _)
 
 returns-2 : tie.Need-returns-2
 returns-2 c = sym (after-here _ (c .before .before .before .before .args .at) (search needs) (rw (low-bits (c .before .before .before .before .args .at)) at (c .if2 .taken)))
-
-add-any-from : tie.Need-add-any-from
-add-any-from c = search needs
-
-any-from-requires : tie.Need-any-from-requires
-any-from-requires c κs = search needs
 
 returns-3 : tie.Need-returns-3
 returns-3 c =
@@ -49,12 +31,12 @@ any-after-spec =
     tie.close
     (tie.spec
     returns
-    sub-left
-    cast-left
-    shl-left
-    shared-slice-read-if2
+    (λ c. search needs)
+    (λ c. search needs)
+    (λ c. search needs)
+    (λ c. search needs)
     rem-if2
     returns-2
-    add-any-from
-    any-from-requires
+    (λ c. search needs)
+    (λ c κs. search needs)
     returns-3)

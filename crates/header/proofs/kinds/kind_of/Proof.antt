@@ -4,27 +4,6 @@ use borrow.Author.Needs.{needs}
 use Rattle.header.proofs.kinds.kind_of.Statement.{statement}
 use Rattle.header.proofs.kinds.kind_of.Tie as tie
 
-nal-ref-idc-requires : tie.Need-nal-ref-idc-requires
-nal-ref-idc-requires c κs = search needs
-
-type-id-requires : tie.Need-type-id-requires
-type-id-requires c κs = search needs
-
-either-requires : tie.Need-either-requires
-either-requires c κs = search needs
-
-enum-known-e : tie.Need-enum-known-e
-enum-known-e c = search needs
-
-non-idr-flag-requires : tie.Need-non-idr-flag-requires
-non-idr-flag-requires c κs = search needs
-
-both-requires : tie.Need-both-requires
-both-requires c κs = search needs
-
-either-requires-2 : tie.Need-either-requires-2
-either-requires-2 c κs = search needs
-
 enum-told : tie.Need-enum-told
 enum-told c = search needs
 
@@ -40,13 +19,13 @@ pub kind-of-spec : {M : Type 1} → statement M
 kind-of-spec =
     tie.close
     (tie.spec
-    nal-ref-idc-requires
-    type-id-requires
-    either-requires
-    enum-known-e
-    non-idr-flag-requires
-    both-requires
-    either-requires-2
+    (λ c κs. search needs)
+    (λ c κs. search needs)
+    (λ c κs. search needs)
+    (λ c. search needs)
+    (λ c κs. search needs)
+    (λ c κs. search needs)
+    (λ c κs. search needs)
     enum-told
     returns
     returns-2)

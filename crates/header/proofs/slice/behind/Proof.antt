@@ -8,17 +8,8 @@ use Rattle.header.proofs.Parts.{lists-no, weights-no, marks-no, back-no
 use Rattle.header.proofs.slice.behind.Statement.{statement}
 use Rattle.header.proofs.slice.behind.Tie as tie
 
-lists-into-requires : tie.Need-lists-into-requires
-lists-into-requires c κs = search needs
-
-enum-known-a3 : tie.Need-enum-known-a3
-enum-known-a3 c = search needs
-
 enum-told : tie.Need-enum-told
 enum-told c = search needs
-
-why-lists-requires : tie.Need-why-lists-requires
-why-lists-requires c κs = search needs
 
 returns : tie.Need-returns
 returns c =
@@ -26,36 +17,12 @@ returns c =
     let z = lists-refused _ _ _ _ _ (c .before .before .before .lists-into .ensures) (c .before .enum-told .given .1) in
     filled-no _ _ (lists-no (a .kind) (a .l) (a .f) (bitsOf (a .s .now)) (a .c .at) z) (rw (c .why-lists .ensures, c .before .enum-told .given .1))
 
-weights-for-into-requires : tie.Need-weights-for-into-requires
-weights-for-into-requires c κs = search needs
-
-enum-known-a4 : tie.Need-enum-known-a4
-enum-known-a4 c = search needs
-
-enum-told-2 : tie.Need-enum-told-2
-enum-told-2 c = search needs
-
-why-weights-requires : tie.Need-why-weights-requires
-why-weights-requires c κs = search needs
-
 returns-2 : tie.Need-returns-2
 returns-2 c =
     let a = c .before .before .before .before .before .before .before .before .before .before .before .before .before .before .before .before .args in
     let lo = lists-got _ _ _ _ _ (c .before .before .before .before .before .before .before .before .before .before .lists-into .ensures) (c .before .before .before .before .before .before .before .before .a3 .given .1) in
     let z = weights-refused _ (c .before .before .before .weights-for-into .ensures .0) (c .before .enum-told2 .given .1) in
     filled-no _ _ (weights-no (a .kind) (a .l) (a .f) (bitsOf (a .s .now)) (a .c .at) (lo .read) z) (rw (c .why-weights .ensures, c .before .enum-told2 .given .1))
-
-marks-into-requires : tie.Need-marks-into-requires
-marks-into-requires c κs = search needs
-
-enum-known-a5 : tie.Need-enum-known-a5
-enum-known-a5 c = search needs
-
-enum-told-3 : tie.Need-enum-told-3
-enum-told-3 c = search needs
-
-why-marks-requires : tie.Need-why-marks-requires
-why-marks-requires c κs = search needs
 
 returns-3 : tie.Need-returns-3
 returns-3 c =
@@ -65,18 +32,6 @@ returns-3 c =
     let lw = weights-got _ _ _ (w .0) (w .1 .0) (w .1 .1) (c .before .before .before .before .before .before .a4 .given .1) in
     let z = marks-refused _ _ _ (c .before .before .before .marks-into .ensures) (c .before .enum-told3 .given .1) in
     filled-no _ _ (marks-no (a .kind) (a .l) (a .f) (bitsOf (a .s .now)) (a .c .at) (lo .read) (lw .read) z) (rw (c .why-marks .ensures, c .before .enum-told3 .given .1))
-
-back-requires : tie.Need-back-requires
-back-requires c κs = search needs
-
-enum-known-a6 : tie.Need-enum-known-a6
-enum-known-a6 c = search needs
-
-enum-told-4 : tie.Need-enum-told-4
-enum-told-4 c = search needs
-
-why-back-requires : tie.Need-why-back-requires
-why-back-requires c κs = search needs
 
 returns-4 : tie.Need-returns-4
 returns-4 c =
@@ -88,12 +43,6 @@ returns-4 c =
     let z = sym (c .before .before .before .back .ensures) ∙ ap asBack (c .before .enum-told4 .given .1) in
     filled-no _ _ (back-no (a .kind) (a .l) (a .f) (bitsOf (a .s .now)) (a .c .at) (lo .read) (lw .read) (ld .read) z) (rw (c .why-back .ensures, c .before .enum-told4 .given .1))
 
-any-set-after-requires : tie.Need-any-set-after-requires
-any-set-after-requires c κs = search needs
-
-refuse-at-requires : tie.Need-refuse-at-requires
-refuse-at-requires c κs = search needs
-
 returns-5 : tie.Need-returns-5
 returns-5 c =
     let a = c .before .before .before .before .before .before .before .before .before .before .before .before .before .before .before .before .before .before .before .before .before .before .before .before .before .before .before .before .args in
@@ -104,9 +53,6 @@ returns-5 c =
     let hb = sym (c .before .before .before .before .before .before .back .ensures) ∙ ap asBack (c .before .before .before .before .a6 .given .1) in
     let z = sym (c .before .before .any-set-after .ensures) ∙ not-true _ (c .before .if1 .taken) in
     filled-no _ _ (follows-no (a .kind) (a .l) (a .f) (bitsOf (a .s .now)) (a .c .at) (lo .read) (lw .read) (ld .read) hb z) (rw (c .refuse-at .ensures))
-
-lay-requires : tie.Need-lay-requires
-lay-requires c κs = search needs
 
 returns-6 : tie.Need-returns-6
 returns-6 c =
@@ -126,28 +72,28 @@ pub behind-spec : {M : Type 1} → statement M
 behind-spec =
     tie.close
     (tie.spec
-    lists-into-requires
-    enum-known-a3
+    (λ c κs. search needs)
+    (λ c. search needs)
     enum-told
-    why-lists-requires
+    (λ c κs. search needs)
     returns
-    weights-for-into-requires
-    enum-known-a4
-    enum-told-2
-    why-weights-requires
+    (λ c κs. search needs)
+    (λ c. search needs)
+    (λ c. search needs)
+    (λ c κs. search needs)
     returns-2
-    marks-into-requires
-    enum-known-a5
-    enum-told-3
-    why-marks-requires
+    (λ c κs. search needs)
+    (λ c. search needs)
+    (λ c. search needs)
+    (λ c κs. search needs)
     returns-3
-    back-requires
-    enum-known-a6
-    enum-told-4
-    why-back-requires
+    (λ c κs. search needs)
+    (λ c. search needs)
+    (λ c. search needs)
+    (λ c κs. search needs)
     returns-4
-    any-set-after-requires
-    refuse-at-requires
+    (λ c κs. search needs)
+    (λ c κs. search needs)
     returns-5
-    lay-requires
+    (λ c κs. search needs)
     returns-6)

@@ -9,37 +9,13 @@ use Rattle.header.proofs.Lists.{first-no, l0-no, second-no, l1-no, both
 use Rattle.header.proofs.slice.lists_into.Statement.{statement}
 use Rattle.header.proofs.slice.lists_into.Tie as tie
 
-first-flag-requires : tie.Need-first-flag-requires
-first-flag-requires c κs = search needs
-
-enum-known-a1 : tie.Need-enum-known-a1
-enum-known-a1 c = search needs
-
 enum-told : tie.Need-enum-told
 enum-told c = search needs
-
-why-flag-requires : tie.Need-why-flag-requires
-why-flag-requires c κs = search needs
 
 returns : tie.Need-returns
 returns c =
     let hg = sym (c .before .before .before .first-flag .ensures) ∙ ap asFlag (c .before .enum-told .given .1) in
     told-lists-no _ _ _ _ (first-no _ _ _ _ hg) (rw (c .why-flag .ensures, c .before .enum-told .given .1))
-
-modification-kind-requires : tie.Need-modification-kind-requires
-modification-kind-requires c κs = search needs
-
-operations-into-requires : tie.Need-operations-into-requires
-operations-into-requires c κs = search needs
-
-enum-known-a2 : tie.Need-enum-known-a2
-enum-known-a2 c = search needs
-
-enum-told-2 : tie.Need-enum-told-2
-enum-told-2 c = search needs
-
-why-list-requires : tie.Need-why-list-requires
-why-list-requires c κs = search needs
 
 returns-2 : tie.Need-returns-2
 returns-2 c =
@@ -47,39 +23,12 @@ returns-2 c =
     let ho = list-refused _ (rw (c .before .before .before .before .before .modification-kind .ensures) at (c .before .before .before .operations-into .ensures .0)) (c .before .enum-told2 .given .1) in
     told-lists-no _ _ _ _ (l0-no _ _ _ _ hg ho) (rw (c .why-list .ensures, c .before .enum-told2 .given .1))
 
-is-type-requires : tie.Need-is-type-requires
-is-type-requires c κs = search needs
-
-flag-if-requires : tie.Need-flag-if-requires
-flag-if-requires c κs = search needs
-
-enum-known-a3 : tie.Need-enum-known-a3
-enum-known-a3 c = search needs
-
-enum-told-3 : tie.Need-enum-told-3
-enum-told-3 c = search needs
-
-why-flag-requires-2 : tie.Need-why-flag-requires-2
-why-flag-requires-2 c κs = search needs
-
 returns-3 : tie.Need-returns-3
 returns-3 c =
     let hg = sym (c .before .before .before .before .before .before .before .before .before .before .before .before .before .before .first-flag .ensures) ∙ ap asFlag (c .before .before .before .before .before .before .before .before .before .before .before .before .a1 .given .1) in
     let lo = list-read _ (rw (c .before .before .before .before .before .before .before .before .before .before .modification-kind .ensures) at (c .before .before .before .before .before .before .before .before .operations-into .ensures .0)) (rw (c .before .before .before .before .before .before .before .before .before .before .modification-kind .ensures) at (c .before .before .before .before .before .before .before .before .operations-into .ensures .1)) (c .before .before .before .before .before .before .a2 .given .1) in
     let hh = sym (rw (c .before .before .before .before .is-type .ensures) at (c .before .before .before .flag-if .ensures)) ∙ ap asFlag (c .before .enum-told3 .given .1) in
     told-lists-no _ _ _ _ (second-no _ _ _ _ hg (lo .read) hh) (rw (c .why-flag2 .ensures, c .before .enum-told3 .given .1))
-
-operations-into-requires-2 : tie.Need-operations-into-requires-2
-operations-into-requires-2 c κs = search needs
-
-enum-known-a4 : tie.Need-enum-known-a4
-enum-known-a4 c = search needs
-
-enum-told-4 : tie.Need-enum-told-4
-enum-told-4 c = search needs
-
-why-list-requires-2 : tie.Need-why-list-requires-2
-why-list-requires-2 c κs = search needs
 
 returns-4 : tie.Need-returns-4
 returns-4 c =
@@ -101,26 +50,26 @@ pub lists-into-spec : {M : Type 1} → statement M
 lists-into-spec =
     tie.close
     (tie.spec
-    first-flag-requires
-    enum-known-a1
+    (λ c κs. search needs)
+    (λ c. search needs)
     enum-told
-    why-flag-requires
+    (λ c κs. search needs)
     returns
-    modification-kind-requires
-    operations-into-requires
-    enum-known-a2
-    enum-told-2
-    why-list-requires
+    (λ c κs. search needs)
+    (λ c κs. search needs)
+    (λ c. search needs)
+    (λ c. search needs)
+    (λ c κs. search needs)
     returns-2
-    is-type-requires
-    flag-if-requires
-    enum-known-a3
-    enum-told-3
-    why-flag-requires-2
+    (λ c κs. search needs)
+    (λ c κs. search needs)
+    (λ c. search needs)
+    (λ c. search needs)
+    (λ c κs. search needs)
     returns-3
-    operations-into-requires-2
-    enum-known-a4
-    enum-told-4
-    why-list-requires-2
+    (λ c κs. search needs)
+    (λ c. search needs)
+    (λ c. search needs)
+    (λ c κs. search needs)
     returns-4
     returns-5)

@@ -9,37 +9,13 @@ use Rattle.header.proofs.Lists.{flags-no, marking-no, marking-read, mar
 use Rattle.header.proofs.slice.marks_into.Statement.{statement}
 use Rattle.header.proofs.slice.marks_into.Tie as tie
 
-marking-flags-requires : tie.Need-marking-flags-requires
-marking-flags-requires c κs = search needs
-
-enum-known-a1 : tie.Need-enum-known-a1
-enum-known-a1 c = search needs
-
 enum-told : tie.Need-enum-told
 enum-told c = search needs
-
-why-marking-requires : tie.Need-why-marking-requires
-why-marking-requires c κs = search needs
 
 returns : tie.Need-returns
 returns c =
     let hm = sym (c .before .before .before .marking-flags .ensures) ∙ ap asMarking (c .before .enum-told .given .1) in
     told-marks-no _ _ (flags-no _ _ _ hm) (rw (c .why-marking .ensures, c .before .enum-told .given .1))
-
-marking-kind-requires : tie.Need-marking-kind-requires
-marking-kind-requires c κs = search needs
-
-operations-into-requires : tie.Need-operations-into-requires
-operations-into-requires c κs = search needs
-
-enum-known-a2 : tie.Need-enum-known-a2
-enum-known-a2 c = search needs
-
-enum-told-2 : tie.Need-enum-told-2
-enum-told-2 c = search needs
-
-why-list-requires : tie.Need-why-list-requires
-why-list-requires c κs = search needs
 
 returns-2 : tie.Need-returns-2
 returns-2 c =
@@ -57,15 +33,15 @@ pub marks-into-spec : {M : Type 1} → statement M
 marks-into-spec =
     tie.close
     (tie.spec
-    marking-flags-requires
-    enum-known-a1
+    (λ c κs. search needs)
+    (λ c. search needs)
     enum-told
-    why-marking-requires
+    (λ c κs. search needs)
     returns
-    marking-kind-requires
-    operations-into-requires
-    enum-known-a2
-    enum-told-2
-    why-list-requires
+    (λ c κs. search needs)
+    (λ c κs. search needs)
+    (λ c. search needs)
+    (λ c. search needs)
+    (λ c κs. search needs)
     returns-2
     returns-3)

@@ -2,12 +2,6 @@ use borrow.Author.Needs.{needs}
 use Rattle.header.proofs.stages.active.Statement.{statement}
 use Rattle.header.proofs.stages.active.Tie as tie
 
-own-or-requires : tie.Need-own-or-requires
-own-or-requires c κs = search needs
-
-one-more-requires : tie.Need-one-more-requires
-one-more-requires c κs = search needs
-
 returns : tie.Need-returns
 returns c = rw (c .one-more .ensures, c .before .own-or .ensures)
 
@@ -15,6 +9,6 @@ pub active-spec : {M : Type 1} → statement M
 active-spec =
     tie.close
     (tie.spec
-    own-or-requires
-    one-more-requires
+    (λ c κs. search needs)
+    (λ c κs. search needs)
     returns)

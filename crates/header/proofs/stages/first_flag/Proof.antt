@@ -4,27 +4,12 @@ use Rattle.header.specs.Stages.{firstFlagAt}
 use Rattle.header.proofs.stages.first_flag.Statement.{statement}
 use Rattle.header.proofs.stages.first_flag.Tie as tie
 
-not-scalable-requires : tie.Need-not-scalable-requires
-not-scalable-requires c κs = search needs
-
-enum-known-a1 : tie.Need-enum-known-a1
-enum-known-a1 c = search needs
-
 enum-told : tie.Need-enum-told
 enum-told c = search needs
-
-why-end-requires : tie.Need-why-end-requires
-why-end-requires c κs = search needs
 
 returns : tie.Need-returns
 unfolding firstFlagAt
 returns c = rw (c .why-end .ensures, ← c .before .before .before .not-scalable .ensures (bitsOf (c .before .before .before .before .before .args .s .now)), c .before .enum-told .given .1)
-
-has-l0-requires : tie.Need-has-l0-requires
-has-l0-requires c κs = search needs
-
-flag-if-requires : tie.Need-flag-if-requires
-flag-if-requires c κs = search needs
 
 returns-2 : tie.Need-returns-2
 unfolding firstFlagAt
@@ -34,11 +19,11 @@ pub first-flag-spec : {M : Type 1} → statement M
 first-flag-spec =
     tie.close
     (tie.spec
-    not-scalable-requires
-    enum-known-a1
+    (λ c κs. search needs)
+    (λ c. search needs)
     enum-told
-    why-end-requires
+    (λ c κs. search needs)
     returns
-    has-l0-requires
-    flag-if-requires
+    (λ c κs. search needs)
+    (λ c κs. search needs)
     returns-2)

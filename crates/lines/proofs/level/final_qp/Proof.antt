@@ -6,12 +6,6 @@ use Rattle.lines.specs.Level.{finalQp}
 use Rattle.lines.proofs.level.final_qp.Statement.{statement}
 use Rattle.lines.proofs.level.final_qp.Tie as tie
 
-init-qp-requires : tie.Need-init-qp-requires
-init-qp-requires c κs = search needs
-
-level-requires : tie.Need-level-requires
-level-requires c κs = search needs
-
 returns : tie.Need-returns
 unfolding finalQp
 returns c =
@@ -20,4 +14,4 @@ returns c =
     rw (toZ-ofZ l, c .level .ensures, toZ-ofZ i, toZ-ofZ (c .before .before .fits .delta), c .before .init-qp .ensures)
 
 pub final-qp-spec : {M : Type 1} → statement M
-final-qp-spec = tie.close (tie.spec init-qp-requires level-requires returns)
+final-qp-spec = tie.close (tie.spec (λ c κs. search needs) (λ c κs. search needs) returns)

@@ -6,12 +6,6 @@ use Rattle.lines.specs.Level.{finalQs}
 use Rattle.lines.proofs.level.final_qs.Statement.{statement}
 use Rattle.lines.proofs.level.final_qs.Tie as tie
 
-init-qs-requires : tie.Need-init-qs-requires
-init-qs-requires c κs = search needs
-
-level-requires : tie.Need-level-requires
-level-requires c κs = search needs
-
 returns : tie.Need-returns
 unfolding finalQs
 returns c =
@@ -20,4 +14,4 @@ returns c =
     rw (toZ-ofZ l, c .level .ensures, toZ-ofZ i, toZ-ofZ (c .before .before .fits .delta), c .before .init-qs .ensures)
 
 pub final-qs-spec : {M : Type 1} → statement M
-final-qs-spec = tie.close (tie.spec init-qs-requires level-requires returns)
+final-qs-spec = tie.close (tie.spec (λ c κs. search needs) (λ c κs. search needs) returns)

@@ -12,50 +12,8 @@ use Rattle.lines.proofs.line.answer_words.Tie as tie
 enum-told : tie.Need-enum-told
 enum-told c = search needs
 
-element-copy-out-final-qp : tie.Need-element-copy-out-final-qp
-element-copy-out-final-qp c = search needs
-
-element-copy-out-final-qp-2 : tie.Need-element-copy-out-final-qp-2
-element-copy-out-final-qp-2 c = search needs
-
-final-qp-requires : tie.Need-final-qp-requires
-final-qp-requires c κs = search needs
-
-element-copy-out-slice-words : tie.Need-element-copy-out-slice-words
-element-copy-out-slice-words c = search needs
-
-element-copy-out-slice-words-2 : tie.Need-element-copy-out-slice-words-2
-element-copy-out-slice-words-2 c = search needs
-
-slice-words-requires : tie.Need-slice-words-requires
-slice-words-requires c κs = search needs
-
-enum-told-2 : tie.Need-enum-told-2
-enum-told-2 c = search needs
-
-is-svc-requires : tie.Need-is-svc-requires
-is-svc-requires c κs = search needs
-
-prefix-words-requires : tie.Need-prefix-words-requires
-prefix-words-requires c κs = search needs
-
-enum-known-answer : tie.Need-enum-known-answer
-enum-known-answer c = search needs
-
-slice-aggregate-field : tie.Need-slice-aggregate-field
-slice-aggregate-field c = search needs
-
-cast-field : tie.Need-cast-field
-cast-field c = search needs
-
 field-requires : tie.Need-field-requires
 field-requires c κs = omega (arith, decimal-8 (c .before .before .before .answer .given .0 .0) (search needs))
-
-enum-known-answer-2 : tie.Need-enum-known-answer-2
-enum-known-answer-2 c = search needs
-
-refused-words-requires : tie.Need-refused-words-requires
-refused-words-requires c κs = search needs
 
 returns : tie.Need-returns
 returns c =
@@ -77,21 +35,21 @@ answer-words-spec =
     tie.close
     (tie.spec
     enum-told
-    element-copy-out-final-qp
-    element-copy-out-final-qp-2
-    final-qp-requires
-    element-copy-out-slice-words
-    element-copy-out-slice-words-2
-    slice-words-requires
-    enum-told-2
-    is-svc-requires
-    prefix-words-requires
-    enum-known-answer
-    slice-aggregate-field
-    cast-field
+    (λ c. search needs)
+    (λ c. search needs)
+    (λ c κs. search needs)
+    (λ c. search needs)
+    (λ c. search needs)
+    (λ c κs. search needs)
+    (λ c. search needs)
+    (λ c κs. search needs)
+    (λ c κs. search needs)
+    (λ c. search needs)
+    (λ c. search needs)
+    (λ c. search needs)
     field-requires
-    enum-known-answer-2
-    refused-words-requires
+    (λ c. search needs)
+    (λ c κs. search needs)
     returns
     returns-2
     returns-3

@@ -5,9 +5,6 @@ use Rattle.lines.proofs.Texts.{nothing}
 use Rattle.lines.proofs.line.bit_words.Statement.{statement}
 use Rattle.lines.proofs.line.bit_words.Tie as tie
 
-slice-aggregate-field : tie.Need-slice-aggregate-field
-slice-aggregate-field c = search needs
-
 field-requires : tie.Need-field-requires
 field-requires c κs = omega (arith, decimal-64 (c .before .before .before .args .bit) (c .before .before .before .fits .bit .fits))
 
@@ -21,4 +18,4 @@ returns-2 : tie.Need-returns-2
 returns-2 c = (rw (c .if1 .left) (nothing _ _), omega arith)
 
 pub bit-words-spec : {M : Type 1} → statement M
-bit-words-spec = tie.close (tie.spec slice-aggregate-field field-requires returns returns-2)
+bit-words-spec = tie.close (tie.spec (λ c. search needs) field-requires returns returns-2)

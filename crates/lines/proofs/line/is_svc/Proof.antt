@@ -3,20 +3,8 @@ use Rattle.lines.specs.Lines.{isSvc}
 use Rattle.lines.proofs.line.is_svc.Statement.{statement}
 use Rattle.lines.proofs.line.is_svc.Tie as tie
 
-extension-of-requires : tie.Need-extension-of-requires
-extension-of-requires c κs = search needs
-
-enum-known-e : tie.Need-enum-known-e
-enum-known-e c = search needs
-
 enum-told : tie.Need-enum-told
 enum-told c = search needs
-
-enum-told-2 : tie.Need-enum-told-2
-enum-told-2 c = search needs
-
-enum-told-3 : tie.Need-enum-told-3
-enum-told-3 c = search needs
 
 returns : tie.Need-returns
 unfolding isSvc
@@ -34,11 +22,11 @@ pub is-svc-spec : {M : Type 1} → statement M
 is-svc-spec =
     tie.close
     (tie.spec
-    extension-of-requires
-    enum-known-e
+    (λ c κs. search needs)
+    (λ c. search needs)
     enum-told
-    enum-told-2
-    enum-told-3
+    (λ c. search needs)
+    (λ c. search needs)
     returns
     returns-2
     returns-3)

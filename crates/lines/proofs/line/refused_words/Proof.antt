@@ -9,17 +9,8 @@ use Rattle.lines.proofs.Texts.{then}
 use Rattle.lines.proofs.line.refused_words.Statement.{statement}
 use Rattle.lines.proofs.line.refused_words.Tie as tie
 
-slice-aggregate-field : tie.Need-slice-aggregate-field
-slice-aggregate-field c = search needs
-
-cast-field : tie.Need-cast-field
-cast-field c = search needs
-
 field-requires : tie.Need-field-requires
 field-requires c κs = omega (arith, decimal-8 (c .before .before .before .args .r .number) (search needs))
-
-slice-aggregate-words : tie.Need-slice-aggregate-words
-slice-aggregate-words c = search needs
 
 words-requires : tie.Need-words-requires
 words-requires c κs = omega (arith, decimal-8 (c .before .before .before .before .before .before .args .r .number) (search needs))
@@ -45,10 +36,10 @@ pub refused-words-spec : {M : Type 1} → statement M
 refused-words-spec =
     tie.close
     (tie.spec
-    slice-aggregate-field
-    cast-field
+    (λ c. search needs)
+    (λ c. search needs)
     field-requires
-    slice-aggregate-words
+    (λ c. search needs)
     words-requires
     signed-number-requires
     bit-words-requires

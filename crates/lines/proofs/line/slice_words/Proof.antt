@@ -9,20 +9,11 @@ use Rattle.lines.proofs.Texts.{then}
 use Rattle.lines.proofs.line.slice_words.Statement.{statement}
 use Rattle.lines.proofs.line.slice_words.Tie as tie
 
-slice-aggregate-field : tie.Need-slice-aggregate-field
-slice-aggregate-field c = search needs
-
 field-requires : tie.Need-field-requires
 field-requires c κs = omega (arith, decimal-32 (c .before .before .args .slice-type) (c .before .before .fits .slice-type .fits))
 
-slice-aggregate-field-2 : tie.Need-slice-aggregate-field-2
-slice-aggregate-field-2 c = search needs
-
 field-requires-2 : tie.Need-field-requires-2
 field-requires-2 c κs = omega (arith, decimal-32 (c .before .before .before .before .before .args .slice-type) (c .before .before .before .before .before .fits .slice-type .fits), decimal-32 (c .before .before .before .before .before .args .frame-num) (c .before .before .before .before .before .fits .frame-num .fits))
-
-slice-aggregate-words : tie.Need-slice-aggregate-words
-slice-aggregate-words c = search needs
 
 words-requires : tie.Need-words-requires
 words-requires c κs = omega (arith, decimal-32 (c .before .before .before .before .before .before .before .before .args .slice-type) (c .before .before .before .before .before .before .before .before .fits .slice-type .fits), decimal-32 (c .before .before .before .before .before .before .before .before .args .frame-num) (c .before .before .before .before .before .before .before .before .fits .frame-num .fits))
@@ -42,11 +33,11 @@ pub slice-words-spec : {M : Type 1} → statement M
 slice-words-spec =
     tie.close
     (tie.spec
-    slice-aggregate-field
+    (λ c. search needs)
     field-requires
-    slice-aggregate-field-2
+    (λ c. search needs)
     field-requires-2
-    slice-aggregate-words
+    (λ c. search needs)
     words-requires
     signed-number-requires
     returns)

@@ -13,18 +13,12 @@ use Rattle.lines.proofs.Texts.{then}
 use Rattle.lines.proofs.text.signed_number.Statement.{statement}
 use Rattle.lines.proofs.text.signed_number.Tie as tie
 
-slice-aggregate-words : tie.Need-slice-aggregate-words
-slice-aggregate-words c = search needs
-
 words-requires : tie.Need-words-requires
 words-requires c κs =
     let z : ℤ = c .before .before .before .args .z in
     let f : SFits w64 z = search needs in
     let l : length (signed z) ≡ suc (length (decimal (natAbs z))) = ap length (signed-below z (rw (toZ-ofZ f) at (c .before .before .if1 .taken))) in
     omega arith
-
-magnitude-requires : tie.Need-magnitude-requires
-magnitude-requires c κs = search needs
 
 number-requires : tie.Need-number-requires
 number-requires c κs =
@@ -40,9 +34,6 @@ returns c =
     let f : SFits w64 z = search needs in
     let m : c .before .magnitude .result ≡ natAbs z = rw (toZ-ofZ f) at (c .before .magnitude .ensures) in
     rw (signed-below z (rw (toZ-ofZ f) at (c .before .before .before .before .before .before .if1 .taken)), ← m) (then (c .before .before .before .words .ensures) (c .number .ensures))
-
-magnitude-requires-2 : tie.Need-magnitude-requires-2
-magnitude-requires-2 c κs = search needs
 
 number-requires-2 : tie.Need-number-requires-2
 number-requires-2 c κs =
@@ -62,11 +53,11 @@ pub signed-number-spec : {M : Type 1} → statement M
 signed-number-spec =
     tie.close
     (tie.spec
-    slice-aggregate-words
+    (λ c. search needs)
     words-requires
-    magnitude-requires
+    (λ c κs. search needs)
     number-requires
     returns
-    magnitude-requires-2
+    (λ c κs. search needs)
     number-requires-2
     returns-2)

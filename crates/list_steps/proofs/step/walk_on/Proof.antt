@@ -4,16 +4,10 @@ use Rattle.unit.specs.Into.{Lent}
 use Rattle.list_steps.proofs.step.walk_on.Statement.{statement}
 use Rattle.list_steps.proofs.step.walk_on.Tie as tie
 
-walk-into-requires : tie.Need-walk-into-requires
-walk-into-requires c κs = search needs
-
-same-length : tie.Need-same-length
-same-length c = search needs
-
 returns : tie.Need-returns
 returns c =
     let g = c .before .before .walk-into .ensures in
     record { step = g .step; answered = g .answered; numbers = ap (λ (w : Lent). w .header .numbers) (g .words); signed = ap (λ (w : Lent). w .header .signed) (g .words); left = g .left }
 
 pub walk-on-spec : {M : Type 1} → statement M
-walk-on-spec = tie.close (tie.spec walk-into-requires same-length returns)
+walk-on-spec = tie.close (tie.spec (λ c κs. search needs) (λ c. search needs) returns)

@@ -15,17 +15,8 @@ abbrev μ-loop : tie.MeasureT-loop
 loop-holds : tie.Need-loop-holds Inv-loop μ-loop
 loop-holds c = let g = c .before .args in held-none (g .kind) (bitsOf (g .s .now)) (g .c .at) (g .words .now)
 
-tested-requires : tie.Need-tested-requires Inv-loop μ-loop
-tested-requires c κs = search needs
-
-enum-known-a : tie.Need-enum-known-a Inv-loop μ-loop
-enum-known-a c = search needs
-
 enum-told : tie.Need-enum-told Inv-loop μ-loop
 enum-told c = search needs
-
-why-requires : tie.Need-why-requires Inv-loop μ-loop
-why-requires c κs = search needs
 
 returns : tie.Need-returns Inv-loop μ-loop
 returns c =
@@ -33,9 +24,6 @@ returns c =
     let a = c .before .before .before .before .loop .inv .reading in
     let t = c .before .before .before .tested in
     fill-refused _ _ (no-code (g .kind) (bitsOf (g .s .now)) (g .c .at) a (t .result) (t .ensures) _ _ (c .before .enum-told .given .1) (c .why .ensures))
-
-refuse-at-requires : tie.Need-refuse-at-requires Inv-loop μ-loop
-refuse-at-requires c κs = search needs
 
 returns-2 : tie.Need-returns-2 Inv-loop μ-loop
 returns-2 c =
@@ -45,21 +33,6 @@ returns-2 c =
     let v = c .before .before .before .before .before .a .given in
     let z = c .before .before .if1 .left in
     fill-refused _ _ (too-many (g .kind) (bitsOf (g .s .now)) (g .c .at) a (t .result) (t .ensures) (v .0 .0) (v .0 .1 .0) (v .1) z (c .before .if2 .taken) _ (c .refuse-at .ensures))
-
-has-first-requires : tie.Need-has-first-requires Inv-loop μ-loop
-has-first-requires c κs = search needs
-
-given-requires : tie.Need-given-requires Inv-loop μ-loop
-given-requires c κs = search needs
-
-enum-known-b : tie.Need-enum-known-b Inv-loop μ-loop
-enum-known-b c = search needs
-
-enum-told-2 : tie.Need-enum-told-2 Inv-loop μ-loop
-enum-told-2 c = search needs
-
-why-requires-2 : tie.Need-why-requires-2 Inv-loop μ-loop
-why-requires-2 c κs = search needs
 
 returns-3 : tie.Need-returns-3 Inv-loop μ-loop
 returns-3 c =
@@ -72,21 +45,6 @@ returns-3 c =
     let f = c .before .before .before .before .has-first in
     let x = c .before .before .before .given in
     fill-refused _ _ (no-first (g .kind) (bitsOf (g .s .now)) (g .c .at) a (t .result) (t .ensures) (v .0 .0) (v .0 .1 .0) (v .1) z m (f .result) (f .ensures) (x .result) (x .ensures) _ _ (c .before .enum-told2 .given .1) (c .why2 .ensures))
-
-has-second-requires : tie.Need-has-second-requires Inv-loop μ-loop
-has-second-requires c κs = search needs
-
-given-requires-2 : tie.Need-given-requires-2 Inv-loop μ-loop
-given-requires-2 c κs = search needs
-
-enum-known-d : tie.Need-enum-known-d Inv-loop μ-loop
-enum-known-d c = search needs
-
-enum-told-3 : tie.Need-enum-told-3 Inv-loop μ-loop
-enum-told-3 c = search needs
-
-why-requires-3 : tie.Need-why-requires-3 Inv-loop μ-loop
-why-requires-3 c κs = search needs
 
 returns-4 : tie.Need-returns-4 Inv-loop μ-loop
 returns-4 c =
@@ -103,42 +61,6 @@ returns-4 c =
     let y = c .before .before .before .given2 in
     fill-refused _ _ (no-second (g .kind) (bitsOf (g .s .now)) (g .c .at) a (t .result) (t .ensures) (v .0 .0) (v .0 .1 .0) (v .1) z m (f .result) (f .ensures) (x .result) (x .ensures) (u .0 .0) (u .0 .1 .0) (u .1) (h .result) (h .ensures) (y .result) (y .ensures) _ _
     (c .before .enum-told3 .given .1) (c .why3 .ensures))
-
-cast-k : tie.Need-cast-k Inv-loop μ-loop
-cast-k c = search needs
-
-mul-k : tie.Need-mul-k Inv-loop μ-loop
-mul-k c = search needs
-
-mul-words : tie.Need-mul-words Inv-loop μ-loop
-mul-words c = search needs
-
-element-write-words : tie.Need-element-write-words Inv-loop μ-loop
-element-write-words c = search needs
-
-add-words : tie.Need-add-words Inv-loop μ-loop
-add-words c = search needs
-
-mul-words-2 : tie.Need-mul-words-2 Inv-loop μ-loop
-mul-words-2 c = search needs
-
-element-write-words-2 : tie.Need-element-write-words-2 Inv-loop μ-loop
-element-write-words-2 c = search needs
-
-add-words-2 : tie.Need-add-words-2 Inv-loop μ-loop
-add-words-2 c = search needs
-
-mul-words-3 : tie.Need-mul-words-3 Inv-loop μ-loop
-mul-words-3 c = search needs
-
-element-write-words-3 : tie.Need-element-write-words-3 Inv-loop μ-loop
-element-write-words-3 c = search needs
-
-add-count : tie.Need-add-count Inv-loop μ-loop
-add-count c = search needs
-
-loop-less : tie.Need-loop-less Inv-loop μ-loop
-loop-less c = search needs
 
 loop-again : tie.Need-loop-again Inv-loop μ-loop
 loop-again c =
@@ -172,36 +94,36 @@ fill-spec =
     Inv-loop
     μ-loop
     loop-holds
-    tested-requires
-    enum-known-a
+    (λ c κs. search needs)
+    (λ c. search needs)
     enum-told
-    why-requires
+    (λ c κs. search needs)
     returns
-    refuse-at-requires
+    (λ c κs. search needs)
     returns-2
-    has-first-requires
-    given-requires
-    enum-known-b
-    enum-told-2
-    why-requires-2
+    (λ c κs. search needs)
+    (λ c κs. search needs)
+    (λ c. search needs)
+    (λ c. search needs)
+    (λ c κs. search needs)
     returns-3
-    has-second-requires
-    given-requires-2
-    enum-known-d
-    enum-told-3
-    why-requires-3
+    (λ c κs. search needs)
+    (λ c κs. search needs)
+    (λ c. search needs)
+    (λ c. search needs)
+    (λ c κs. search needs)
     returns-4
-    cast-k
-    mul-k
-    mul-words
-    element-write-words
-    add-words
-    mul-words-2
-    element-write-words-2
-    add-words-2
-    mul-words-3
-    element-write-words-3
-    add-count
-    loop-less
+    (λ c. search needs)
+    (λ c. search needs)
+    (λ c. search needs)
+    (λ c. search needs)
+    (λ c. search needs)
+    (λ c. search needs)
+    (λ c. search needs)
+    (λ c. search needs)
+    (λ c. search needs)
+    (λ c. search needs)
+    (λ c. search needs)
+    (λ c. search needs)
     loop-again
     returns-5)

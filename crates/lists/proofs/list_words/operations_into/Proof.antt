@@ -12,17 +12,8 @@ returns c =
     let g = c .before .before .args in
     left-absent (g .words .now) (list-absent (g .there) (kindOf (g .kind)) (bitsOf (g .s .now)) (g .c .at) (not-true (g .there) (c .if1 .taken)))
 
-fill-requires : tie.Need-fill-requires
-fill-requires c κs = search needs
-
 enum-told : tie.Need-enum-told
 enum-told c = search needs
-
-enum-told-2 : tie.Need-enum-told-2
-enum-told-2 c = search needs
-
-clear-list-requires : tie.Need-clear-list-requires
-clear-list-requires c κs = search needs
 
 returns-2 : tie.Need-returns-2
 returns-2 c =
@@ -39,4 +30,4 @@ returns-3 c =
     rw (← e) (f .ensures .0, left-read (found (g .kind) (bitsOf (g .s .now)) (g .c .at)) (g .words .now) (f .ensures .0) (c .enum-told .given .1) (f .ensures .1))
 
 pub operations-into-spec : {M : Type 1} → statement M
-operations-into-spec = tie.close (tie.spec returns fill-requires enum-told enum-told-2 clear-list-requires returns-2 returns-3)
+operations-into-spec = tie.close (tie.spec returns (λ c κs. search needs) enum-told (λ c. search needs) (λ c κs. search needs) returns-2 returns-3)

@@ -7,14 +7,8 @@ use borrow.Author.Needs.{needs, sfits-of}
 use Rattle.record.proofs.entries.flag_at.Statement.{statement}
 use Rattle.record.proofs.entries.flag_at.Tie as tie
 
-mul-result : tie.Need-mul-result
-mul-result c = search needs
-
-element-copy-out-result : tie.Need-element-copy-out-result
-element-copy-out-result c = search needs
-
 returns : tie.Need-returns
 returns c = ap not (zero-bits (getD (c .before .args .words .now) (c .before .args .k) (pos 0)) (sfits-of (c .result .given)))
 
 pub flag-at-spec : {M : Type 1} → statement M
-flag-at-spec = tie.close (tie.spec mul-result element-copy-out-result returns)
+flag-at-spec = tie.close (tie.spec (λ c. search needs) (λ c. search needs) returns)

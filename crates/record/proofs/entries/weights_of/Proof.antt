@@ -13,32 +13,8 @@ Inv-loop count words used entries₀ i₀ entries i = ((i ≤ used) × (used ≤
 abbrev μ-loop : tie.MeasureT-loop
 μ-loop count words used entries₀ i₀ entries i = used - i
 
-at-most-32-requires : tie.Need-at-most-32-requires Inv-loop μ-loop
-at-most-32-requires c κs = search needs
-
-no-entries-requires : tie.Need-no-entries-requires Inv-loop μ-loop
-no-entries-requires c κs = search needs
-
 loop-holds : tie.Need-loop-holds Inv-loop μ-loop
 loop-holds c = let h : c .before .at-most-32 .result ≤ 32 = rw (c .before .at-most-32 .ensures) (at-most-32 (c .before .before .args .count)) in (search needs, rw (c .no-entries .ensures) (none-held (c .before .before .args .words .now)))
-
-cast-k : tie.Need-cast-k Inv-loop μ-loop
-cast-k c = search needs
-
-weight-at-requires : tie.Need-weight-at-requires Inv-loop μ-loop
-weight-at-requires c κs = search needs
-
-mul-entries : tie.Need-mul-entries Inv-loop μ-loop
-mul-entries c = search needs
-
-array-set-from-entries : tie.Need-array-set-from-entries Inv-loop μ-loop
-array-set-from-entries c = search needs
-
-add-i : tie.Need-add-i Inv-loop μ-loop
-add-i c = search needs
-
-loop-less : tie.Need-loop-less Inv-loop μ-loop
-loop-less c = search needs
 
 loop-again : tie.Need-loop-again Inv-loop μ-loop
 loop-again c = (search needs, rw (c .weight-at .ensures) (one-held _ (c .before .before .loop .inv .1) (search needs)))
@@ -56,14 +32,14 @@ weights-of-spec =
     (tie.spec
     Inv-loop
     μ-loop
-    at-most-32-requires
-    no-entries-requires
+    (λ c κs. search needs)
+    (λ c κs. search needs)
     loop-holds
-    cast-k
-    weight-at-requires
-    mul-entries
-    array-set-from-entries
-    add-i
-    loop-less
+    (λ c. search needs)
+    (λ c κs. search needs)
+    (λ c. search needs)
+    (λ c. search needs)
+    (λ c. search needs)
+    (λ c. search needs)
     loop-again
     returns)

@@ -3,12 +3,9 @@ use borrow.Author.Needs.{needs}
 use Rattle.record.proofs.record.prefix_of.Statement.{statement}
 use Rattle.record.proofs.record.prefix_of.Tie as tie
 
-operations-of-requires : tie.Need-operations-of-requires
-operations-of-requires c κs = search needs
-
 returns : tie.Need-returns
 unfolding prefixFrom
 returns c = rw (c .operations-of .ensures)
 
 pub prefix-of-spec : {M : Type 1} → statement M
-prefix-of-spec = tie.close (tie.spec operations-of-requires returns)
+prefix-of-spec = tie.close (tie.spec (λ c κs. search needs) returns)

@@ -16,27 +16,6 @@ abbrev μ-loop : tie.MeasureT-loop
 loop-holds : tie.Need-loop-holds Inv-loop μ-loop
 loop-holds c = (omega arith, omega arith, λ j h p. absurd (omega arith))
 
-cast-trace : tie.Need-cast-trace Inv-loop μ-loop
-cast-trace c = search needs
-
-add-trace : tie.Need-add-trace Inv-loop μ-loop
-add-trace c = search needs
-
-trace-requires : tie.Need-trace-requires Inv-loop μ-loop
-trace-requires c κs = search needs
-
-place-of-requires : tie.Need-place-of-requires Inv-loop μ-loop
-place-of-requires c κs = search needs
-
-lower-requires : tie.Need-lower-requires Inv-loop μ-loop
-lower-requires c κs = search needs
-
-add-k : tie.Need-add-k Inv-loop μ-loop
-add-k c = search needs
-
-loop-less : tie.Need-loop-less Inv-loop μ-loop
-loop-less c = search needs
-
 loop-again : tie.Need-loop-again Inv-loop μ-loop
 loop-again c =
     let q = c .before in
@@ -63,12 +42,12 @@ first-of-128-spec =
     Inv-loop
     μ-loop
     loop-holds
-    cast-trace
-    add-trace
-    trace-requires
-    place-of-requires
-    lower-requires
-    add-k
-    loop-less
+    (λ c. search needs)
+    (λ c. search needs)
+    (λ c κs. search needs)
+    (λ c κs. search needs)
+    (λ c κs. search needs)
+    (λ c. search needs)
+    (λ c. search needs)
     loop-again
     returns)

@@ -17,21 +17,6 @@ abbrev μ-loop : tie.MeasureT-loop
 loop-holds : tie.Need-loop-holds Inv-loop μ-loop
 loop-holds c = let a = c .before .args in (omega arith, λ h. clear-none (a .mask) (a .flip) (a .s .now) (a .i))
 
-add-trace : tie.Need-add-trace Inv-loop μ-loop
-add-trace c = search needs
-
-trace-requires : tie.Need-trace-requires Inv-loop μ-loop
-trace-requires c κs = search needs
-
-lower-requires : tie.Need-lower-requires Inv-loop μ-loop
-lower-requires c κs = search needs
-
-add-k : tie.Need-add-k Inv-loop μ-loop
-add-k c = search needs
-
-loop-less : tie.Need-loop-less Inv-loop μ-loop
-loop-less c = search needs
-
 loop-again : tie.Need-loop-again Inv-loop μ-loop
 loop-again c =
     let l = c .before .before .before in
@@ -54,10 +39,10 @@ is-clear-spec =
     Inv-loop
     μ-loop
     loop-holds
-    add-trace
-    trace-requires
-    lower-requires
-    add-k
-    loop-less
+    (λ c. search needs)
+    (λ c κs. search needs)
+    (λ c κs. search needs)
+    (λ c. search needs)
+    (λ c. search needs)
     loop-again
     returns)

@@ -3,19 +3,13 @@ use Rattle.scan.proofs.Clears.{clear-pairs}
 use Rattle.scan.proofs.blocks.is_passed.Statement.{statement}
 use Rattle.scan.proofs.blocks.is_passed.Tie as tie
 
-is-clear-requires : tie.Need-is-clear-requires
-is-clear-requires c κs = search needs
-
 returns : tie.Need-returns
 returns c h =
     let a = c .before .before .before .args in
     clear-pairs (a .mask) (a .flip) (a .s .now) (a .i) _ (c .before .is-clear .ensures (c .if1 .taken))
 
-is-clear-requires-2 : tie.Need-is-clear-requires-2
-is-clear-requires-2 c κs = search needs
-
 returns-2 : tie.Need-returns-2
 returns-2 c = search needs
 
 pub is-passed-spec : {M : Type 1} → statement M
-is-passed-spec = tie.close (tie.spec is-clear-requires returns is-clear-requires-2 returns-2)
+is-passed-spec = tie.close (tie.spec (λ c κs. search needs) returns (λ c κs. search needs) returns-2)

@@ -4,15 +4,6 @@ use Rattle.scan.proofs.Clears.{clear-part}
 use Rattle.scan.proofs.blocks.pass_end.Statement.{statement}
 use Rattle.scan.proofs.blocks.pass_end.Tie as tie
 
-is-passed-requires : tie.Need-is-passed-requires
-is-passed-requires c κs = search needs
-
-sub-if3 : tie.Need-sub-if3
-sub-if3 c = search needs
-
-sub-result : tie.Need-sub-result
-sub-result c = search needs
-
 returns : tie.Need-returns
 returns c =
     let b = c .before .before in
@@ -22,9 +13,6 @@ returns c =
 returns-2 : tie.Need-returns-2
 returns-2 c = (omega arith, omega arith, λ j x y p. absurd (omega arith))
 
-pass-blocks-requires : tie.Need-pass-blocks-requires
-pass-blocks-requires c κs = search needs
-
 returns-3 : tie.Need-returns-3
 returns-3 c = search needs
 
@@ -32,10 +20,10 @@ pub pass-end-spec : {M : Type 1} → statement M
 pass-end-spec =
     tie.close
     (tie.spec
-    is-passed-requires
-    sub-if3
-    sub-result
+    (λ c κs. search needs)
+    (λ c. search needs)
+    (λ c. search needs)
     returns
     returns-2
-    pass-blocks-requires
+    (λ c κs. search needs)
     returns-3)

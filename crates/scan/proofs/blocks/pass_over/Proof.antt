@@ -4,12 +4,6 @@ use borrow.Author.Needs.{needs}
 use Rattle.scan.proofs.blocks.pass_over.Statement.{statement}
 use Rattle.scan.proofs.blocks.pass_over.Tie as tie
 
-pass-blocks-requires : tie.Need-pass-blocks-requires
-pass-blocks-requires c κs = search needs
-
-pass-near-requires : tie.Need-pass-near-requires
-pass-near-requires c κs = search needs
-
 returns : tie.Need-returns
 returns c =
     let p = c .before in
@@ -20,4 +14,4 @@ returns c =
     )
 
 pub pass-over-spec : {M : Type 1} → statement M
-pass-over-spec = tie.close (tie.spec pass-blocks-requires pass-near-requires returns)
+pass-over-spec = tie.close (tie.spec (λ c κs. search needs) (λ c κs. search needs) returns)

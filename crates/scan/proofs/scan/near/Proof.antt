@@ -4,9 +4,6 @@ use borrow.Author.Needs.{needs}
 use Rattle.scan.proofs.scan.near.Statement.{statement}
 use Rattle.scan.proofs.scan.near.Tie as tie
 
-pass-over-requires : tie.Need-pass-over-requires
-pass-over-requires c κs = search needs
-
 returns : tie.Need-returns
 returns c =
     let a = c .before .before .before .args in
@@ -16,9 +13,6 @@ returns c =
 returns-2 : tie.Need-returns-2
 returns-2 c = search needs
 
-pass-over-requires-2 : tie.Need-pass-over-requires-2
-pass-over-requires-2 c κs = search needs
-
 returns-3 : tie.Need-returns-3
 returns-3 c =
     let a = c .before .before .before .before .args in
@@ -27,4 +21,4 @@ returns-3 c =
 
 pub near-spec : {M : Type 1} → statement M
 near-spec =
-    tie.close (tie.spec pass-over-requires returns returns-2 pass-over-requires-2 returns-3)
+    tie.close (tie.spec (λ c κs. search needs) returns returns-2 (λ c κs. search needs) returns-3)

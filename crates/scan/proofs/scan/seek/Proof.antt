@@ -8,14 +8,8 @@ use Rattle.scan.proofs.scan.seek.Tie as tie
 returns : tie.Need-returns
 returns c = let a = c .before .before .args in rw (drop-of-length-le (a .s .now) {i = a .from} (omega arith), add-zero)
 
-near-requires : tie.Need-near-requires
-near-requires c κs = search needs
-
-seek-plain-requires : tie.Need-seek-plain-requires
-seek-plain-requires c κs = search needs
-
 returns-2 : tie.Need-returns-2
 returns-2 c = search needs
 
 pub seek-spec : {M : Type 1} → statement M
-seek-spec = tie.close (tie.spec returns near-requires seek-plain-requires returns-2)
+seek-spec = tie.close (tie.spec returns (λ c κs. search needs) (λ c κs. search needs) returns-2)

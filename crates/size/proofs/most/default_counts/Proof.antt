@@ -5,12 +5,6 @@ use borrow.Author.Needs.{needs}
 use Rattle.size.proofs.most.default_counts.Statement.{statement}
 use Rattle.size.proofs.most.default_counts.Tie as tie
 
-picture-in-requires : tie.Need-picture-in-requires
-picture-in-requires c κs = search needs
-
-enum-known-p : tie.Need-enum-known-p
-enum-known-p c = search needs
-
 enum-told : tie.Need-enum-told
 enum-told c = search needs
 
@@ -25,4 +19,4 @@ returns-2 c =
     (ap (λ (f : FoundPicture). pictureIn f .«num_ref_idx_l0_default_active_minus1») e, ap (λ (f : FoundPicture). pictureIn f .«num_ref_idx_l1_default_active_minus1») e)
 
 pub default-counts-spec : {M : Type 1} → statement M
-default-counts-spec = tie.close (tie.spec picture-in-requires enum-known-p enum-told returns returns-2)
+default-counts-spec = tie.close (tie.spec (λ c κs. search needs) (λ c. search needs) enum-told returns returns-2)

@@ -9,45 +9,6 @@ use borrow.Author.Needs.{needs}
 use Rattle.table.proofs.sets.picture_fits.Statement.{statement}
 use Rattle.table.proofs.sets.picture_fits.Tie as tie
 
-within-requires : tie.Need-within-requires
-within-requires c κs = search needs
-
-within-requires-2 : tie.Need-within-requires-2
-within-requires-2 c κs = search needs
-
-within-requires-3 : tie.Need-within-requires-3
-within-requires-3 c κs = search needs
-
-within-requires-4 : tie.Need-within-requires-4
-within-requires-4 c κs = search needs
-
-within-signed-requires : tie.Need-within-signed-requires
-within-signed-requires c κs = search needs
-
-within-signed-requires-2 : tie.Need-within-signed-requires-2
-within-signed-requires-2 c κs = search needs
-
-within-requires-5 : tie.Need-within-requires-5
-within-requires-5 c κs = search needs
-
-both-requires : tie.Need-both-requires
-both-requires c κs = search needs
-
-both-requires-2 : tie.Need-both-requires-2
-both-requires-2 c κs = search needs
-
-both-requires-3 : tie.Need-both-requires-3
-both-requires-3 c κs = search needs
-
-both-requires-4 : tie.Need-both-requires-4
-both-requires-4 c κs = search needs
-
-both-requires-5 : tie.Need-both-requires-5
-both-requires-5 c κs = search needs
-
-both-requires-6 : tie.Need-both-requires-6
-both-requires-6 c κs = search needs
-
 -- the signed tests, on the fields themselves
 qp-told : (c : tie.After-within-signed) → c .within-signed .result ≡ betweenZ (negsuc 61) (pos 25) (c .before .before .before .before .before .before .args .p .«pic_init_qp_minus26»)
 qp-told c = let f : SFits w32 (c .before .before .before .before .before .before .args .p .«pic_init_qp_minus26») = search needs in rw (toZ-ofZ f) at (c .within-signed .ensures)
@@ -79,17 +40,17 @@ pub picture-fits-spec : {M : Type 1} → statement M
 picture-fits-spec =
     tie.close
     (tie.spec
-    within-requires
-    within-requires-2
-    within-requires-3
-    within-requires-4
-    within-signed-requires
-    within-signed-requires-2
-    within-requires-5
-    both-requires
-    both-requires-2
-    both-requires-3
-    both-requires-4
-    both-requires-5
-    both-requires-6
+    (λ c κs. search needs)
+    (λ c κs. search needs)
+    (λ c κs. search needs)
+    (λ c κs. search needs)
+    (λ c κs. search needs)
+    (λ c κs. search needs)
+    (λ c κs. search needs)
+    (λ c κs. search needs)
+    (λ c κs. search needs)
+    (λ c κs. search needs)
+    (λ c κs. search needs)
+    (λ c κs. search needs)
+    (λ c κs. search needs)
     returns)

@@ -9,12 +9,6 @@ use Rattle.table.proofs.Signs.{lowered-mag}
 use Rattle.table.proofs.words.lowered.Statement.{statement}
 use Rattle.table.proofs.words.lowered.Tie as tie
 
-cast-result : tie.Need-cast-result
-cast-result c = search needs
-
-cast-result-2 : tie.Need-cast-result-2
-cast-result-2 c = search needs
-
 fits : (c : tie.Start) → SFits w32 (pos (c .args .w) -ℤ pos (c .args .by))
 fits c = sfits-of (omega (arith, lowered-mag (c .args .w) (c .args .by)))
 
@@ -31,4 +25,4 @@ returns c =
     rw (w, by, toZ-ofZ (fits c))
 
 pub lowered-spec : {M : Type 1} → statement M
-lowered-spec = tie.close (tie.spec cast-result cast-result-2 sub-result returns)
+lowered-spec = tie.close (tie.spec (λ c. search needs) (λ c. search needs) sub-result returns)

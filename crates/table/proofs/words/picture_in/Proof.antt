@@ -19,103 +19,13 @@ use Rattle.table.proofs.words.picture_in.Tie as tie
 returns : tie.Need-returns
 returns c = sym (picture-past _ _ (c .if1 .taken))
 
-mul-k : tie.Need-mul-k
-mul-k c = search needs
-
-cast-i : tie.Need-cast-i
-cast-i c = search needs
-
-mul-marks : tie.Need-mul-marks
-mul-marks c = search needs
-
-element-copy-out-marks : tie.Need-element-copy-out-marks
-element-copy-out-marks c = search needs
-
-add-seq-parameter-set-id : tie.Need-add-seq-parameter-set-id
-add-seq-parameter-set-id c = search needs
-
-mul-seq-parameter-set-id : tie.Need-mul-seq-parameter-set-id
-mul-seq-parameter-set-id c = search needs
-
-element-copy-out-seq-parameter-set-id : tie.Need-element-copy-out-seq-parameter-set-id
-element-copy-out-seq-parameter-set-id c = search needs
-
-add-num-ref-idx-l0-default-active-minus1 : tie.Need-add-num-ref-idx-l0-default-active-minus1
-add-num-ref-idx-l0-default-active-minus1 c = search needs
-
-mul-num-ref-idx-l0-default-active-minus1 : tie.Need-mul-num-ref-idx-l0-default-active-minus1
-mul-num-ref-idx-l0-default-active-minus1 c = search needs
-
 element-copy-out-num-ref-idx-l0-default-active-minus1 :
     tie.Need-element-copy-out-num-ref-idx-l0-default-active-minus1
 element-copy-out-num-ref-idx-l0-default-active-minus1 c = search needs
 
-add-num-ref-idx-l1-default-active-minus1 : tie.Need-add-num-ref-idx-l1-default-active-minus1
-add-num-ref-idx-l1-default-active-minus1 c = search needs
-
-mul-num-ref-idx-l1-default-active-minus1 : tie.Need-mul-num-ref-idx-l1-default-active-minus1
-mul-num-ref-idx-l1-default-active-minus1 c = search needs
-
 element-copy-out-num-ref-idx-l1-default-active-minus1 :
     tie.Need-element-copy-out-num-ref-idx-l1-default-active-minus1
 element-copy-out-num-ref-idx-l1-default-active-minus1 c = search needs
-
-add-weighted-bipred-idc : tie.Need-add-weighted-bipred-idc
-add-weighted-bipred-idc c = search needs
-
-mul-weighted-bipred-idc : tie.Need-mul-weighted-bipred-idc
-mul-weighted-bipred-idc c = search needs
-
-element-copy-out-weighted-bipred-idc : tie.Need-element-copy-out-weighted-bipred-idc
-element-copy-out-weighted-bipred-idc c = search needs
-
-add-qp : tie.Need-add-qp
-add-qp c = search needs
-
-mul-qp : tie.Need-mul-qp
-mul-qp c = search needs
-
-element-copy-out-qp : tie.Need-element-copy-out-qp
-element-copy-out-qp c = search needs
-
-add-qs : tie.Need-add-qs
-add-qs c = search needs
-
-mul-qs : tie.Need-mul-qs
-mul-qs c = search needs
-
-element-copy-out-qs : tie.Need-element-copy-out-qs
-element-copy-out-qs c = search needs
-
-add-slice-group-change-rate : tie.Need-add-slice-group-change-rate
-add-slice-group-change-rate c = search needs
-
-mul-slice-group-change-rate : tie.Need-mul-slice-group-change-rate
-mul-slice-group-change-rate c = search needs
-
-element-copy-out-slice-group-change-rate : tie.Need-element-copy-out-slice-group-change-rate
-element-copy-out-slice-group-change-rate c = search needs
-
-add-width : tie.Need-add-width
-add-width c = search needs
-
-mul-width : tie.Need-mul-width
-mul-width c = search needs
-
-element-copy-out-width : tie.Need-element-copy-out-width
-element-copy-out-width c = search needs
-
-within-requires : tie.Need-within-requires
-within-requires c κs = search needs
-
-both-requires : tie.Need-both-requires
-both-requires c κs = search needs
-
-both-requires-2 : tie.Need-both-requires-2
-both-requires-2 c κs = search needs
-
-both-requires-3 : tie.Need-both-requires-3
-both-requires-3 c κs = search needs
 
 -- the tests that stand first, on the entry's words
 told : (c : tie.After-both3) → c .both3 .result ≡ plausible (entryAt (c .before .before .before .before .before .before .before .before .before .before .before .before .before .before .args .t .now) (c .before .before .before .before .before .before .before .before .before .before .before .before .before .before .args .id * 9) 8)
@@ -129,9 +39,6 @@ lowered-requires c κs = (picture-made (entryAt (c .before .before .before .befo
 
 lowered-requires-2 : tie.Need-lowered-requires-2
 lowered-requires-2 c κs = let h = picture-made (entryAt (c .before .before .before .before .before .before .before .before .before .before .before .before .before .before .before .before .args .t .now) (c .before .before .before .before .before .before .before .before .before .before .before .before .before .before .before .before .args .id * 9) 8) (held (told (c .before .before)) (c .before .if2 .left)) .qs in (omega (arith, h), lit≤ tt)
-
-picture-fits-requires : tie.Need-picture-fits-requires
-picture-fits-requires c κs = search needs
 
 -- the set as the code makes it
 is-made :
@@ -156,41 +63,41 @@ picture-in-spec =
     tie.close
     (tie.spec
     returns
-    mul-k
-    cast-i
-    mul-marks
-    element-copy-out-marks
-    add-seq-parameter-set-id
-    mul-seq-parameter-set-id
-    element-copy-out-seq-parameter-set-id
-    add-num-ref-idx-l0-default-active-minus1
-    mul-num-ref-idx-l0-default-active-minus1
+    (λ c. search needs)
+    (λ c. search needs)
+    (λ c. search needs)
+    (λ c. search needs)
+    (λ c. search needs)
+    (λ c. search needs)
+    (λ c. search needs)
+    (λ c. search needs)
+    (λ c. search needs)
     element-copy-out-num-ref-idx-l0-default-active-minus1
-    add-num-ref-idx-l1-default-active-minus1
-    mul-num-ref-idx-l1-default-active-minus1
+    (λ c. search needs)
+    (λ c. search needs)
     element-copy-out-num-ref-idx-l1-default-active-minus1
-    add-weighted-bipred-idc
-    mul-weighted-bipred-idc
-    element-copy-out-weighted-bipred-idc
-    add-qp
-    mul-qp
-    element-copy-out-qp
-    add-qs
-    mul-qs
-    element-copy-out-qs
-    add-slice-group-change-rate
-    mul-slice-group-change-rate
-    element-copy-out-slice-group-change-rate
-    add-width
-    mul-width
-    element-copy-out-width
-    within-requires
-    both-requires
-    both-requires-2
-    both-requires-3
+    (λ c. search needs)
+    (λ c. search needs)
+    (λ c. search needs)
+    (λ c. search needs)
+    (λ c. search needs)
+    (λ c. search needs)
+    (λ c. search needs)
+    (λ c. search needs)
+    (λ c. search needs)
+    (λ c. search needs)
+    (λ c. search needs)
+    (λ c. search needs)
+    (λ c. search needs)
+    (λ c. search needs)
+    (λ c. search needs)
+    (λ c κs. search needs)
+    (λ c κs. search needs)
+    (λ c κs. search needs)
+    (λ c κs. search needs)
     returns-2
     lowered-requires
     lowered-requires-2
-    picture-fits-requires
+    (λ c κs. search needs)
     returns-3
     returns-4)

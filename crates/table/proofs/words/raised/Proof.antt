@@ -9,9 +9,6 @@ use Rattle.table.proofs.Signs.{Raised, raised}
 use Rattle.table.proofs.words.raised.Statement.{statement}
 use Rattle.table.proofs.words.raised.Tie as tie
 
-cast-result : tie.Need-cast-result
-cast-result c = search needs
-
 up : (c : tie.Start) → Raised (c .args .by) (c .args .z)
 up c = raised (c .args .by) (c .args .z) (c .pre .0)
 
@@ -36,4 +33,4 @@ returns c =
     rw (sum c, e) (sym (ap natAbs (up c .is)))
 
 pub raised-spec : {M : Type 1} → statement M
-raised-spec = tie.close (tie.spec cast-result add-result cast-result-2 returns)
+raised-spec = tie.close (tie.spec (λ c. search needs) add-result cast-result-2 returns)

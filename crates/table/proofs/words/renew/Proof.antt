@@ -18,15 +18,6 @@ loop-holds : tie.Need-loop-holds Inv-loop μ-loop
 unfolding renewed
 loop-holds c = (omega arith, refl)
 
-renew-entry-requires : tie.Need-renew-entry-requires Inv-loop μ-loop
-renew-entry-requires c κs = search needs
-
-add-j : tie.Need-add-j Inv-loop μ-loop
-add-j c = search needs
-
-loop-less : tie.Need-loop-less Inv-loop μ-loop
-loop-less c = search needs
-
 more : (id size : ℕ) (t₀ t : List ℕ) (j : ℕ) → t ≡ renewed id size t₀ j → renewedBy id size t j (pictureIn t j) ≡ renewed id size t₀ (j + 1)
 unfolding renewed
 more id size t₀ t j e = rw (add-one, e)
@@ -40,4 +31,4 @@ returns c = c .before .loop .inv .1 ∙ ap (renewed _ _ _) (omega arith)
 pub renew-spec : {M : Type 1} → statement M
 renew-spec =
     tie.close
-    (tie.spec Inv-loop μ-loop loop-holds renew-entry-requires add-j loop-less loop-again returns)
+    (tie.spec Inv-loop μ-loop loop-holds (λ c κs. search needs) (λ c. search needs) (λ c. search needs) loop-again returns)

@@ -7,12 +7,6 @@ use Rattle.table.proofs.Entries.{found-picture}
 use Rattle.table.proofs.words.renew_entry.Statement.{statement}
 use Rattle.table.proofs.words.renew_entry.Tie as tie
 
-picture-in-requires : tie.Need-picture-in-requires
-picture-in-requires c κs = search needs
-
-enum-known-found : tie.Need-enum-known-found
-enum-known-found c = search needs
-
 enum-told : tie.Need-enum-told
 enum-told c = search needs
 
@@ -21,9 +15,6 @@ returns c = rw (← c .before .before .picture-in .ensures, c .enum-told .given 
 
 returns-2 : tie.Need-returns-2
 returns-2 c = rw (← c .before .before .before .before .before .picture-in .ensures, c .before .before .before .found .given .1, ne-eqb _ _ (c .if1 .taken))
-
-change-cycle-width-requires : tie.Need-change-cycle-width-requires
-change-cycle-width-requires c κs = search needs
 
 -- a set was found, so there is such an entry
 inside : (c : tie.After-change-cycle-width) → c .before .before .before .before .before .before .before .before .args .j ≤ 255
@@ -35,12 +26,6 @@ mul-k c = record { fits = omega (arith, inside c) }
 add-k : tie.Need-add-k
 add-k c = record { fits = omega (arith, inside c) }
 
-cast-t : tie.Need-cast-t
-cast-t c = search needs
-
-mul-t : tie.Need-mul-t
-mul-t c = search needs
-
 element-write-t : tie.Need-element-write-t
 element-write-t c = omega (arith, inside c)
 
@@ -51,15 +36,15 @@ pub renew-entry-spec : {M : Type 1} → statement M
 renew-entry-spec =
     tie.close
     (tie.spec
-    picture-in-requires
-    enum-known-found
+    (λ c κs. search needs)
+    (λ c. search needs)
     enum-told
     returns
     returns-2
-    change-cycle-width-requires
+    (λ c κs. search needs)
     mul-k
     add-k
-    cast-t
-    mul-t
+    (λ c. search needs)
+    (λ c. search needs)
     element-write-t
     returns-3)

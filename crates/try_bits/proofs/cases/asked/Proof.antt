@@ -7,9 +7,6 @@ use Rattle.try_bits.proofs.cases.asked.Tie as tie
 slice-aggregate-answer : tie.Need-slice-aggregate-answer
 slice-aggregate-answer c = sym (length-take-le _ _ (search needs))
 
-answer-requires : tie.Need-answer-requires
-answer-requires c κs = search needs
-
 returns : tie.Need-returns
 returns c = search needs
 
@@ -17,4 +14,4 @@ returns-2 : tie.Need-returns-2
 returns-2 c = search needs
 
 pub asked-spec : {M : Type 1} → statement M
-asked-spec = tie.close (tie.spec slice-aggregate-answer answer-requires returns returns-2)
+asked-spec = tie.close (tie.spec slice-aggregate-answer (λ c κs. search needs) returns returns-2)

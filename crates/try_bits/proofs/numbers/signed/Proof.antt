@@ -13,9 +13,6 @@ use Rattle.try_bits.proofs.numbers.signed.Tie as tie
 returns : tie.Need-returns
 returns c = search needs
 
-cast-z : tie.Need-cast-z
-cast-z c = search needs
-
 -- the machine's 0 - n is -n, which fits
 neg-fits : (n : ℕ) → n < 2 ^ 31 → SFits w32 (negℤ (pos n))
 neg-fits zero h = record { sfits = lit< tt }
@@ -36,4 +33,4 @@ returns-3 : tie.Need-returns-3
 returns-3 c = search needs
 
 pub signed-spec : {M : Type 1} → statement M
-signed-spec = tie.close (tie.spec returns cast-z sub-result returns-2 returns-3)
+signed-spec = tie.close (tie.spec returns (λ c. search needs) sub-result returns-2 returns-3)

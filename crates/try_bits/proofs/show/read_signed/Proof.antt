@@ -6,31 +6,10 @@ use Rattle.try_bits.proofs.Signs.{wider}
 use Rattle.try_bits.proofs.show.read_signed.Statement.{statement}
 use Rattle.try_bits.proofs.show.read_signed.Tie as tie
 
-enum-known-a : tie.Need-enum-known-a
-enum-known-a c = search needs
-
 cast-signed : tie.Need-cast-signed
 cast-signed c =
     let f : SFits w32 (c .before .a .given .0 .0) = search needs in
     rw (toZ-ofZ f) (wider _ f)
-
-signed-requires : tie.Need-signed-requires
-signed-requires c κs = search needs
-
-slice-aggregate-text : tie.Need-slice-aggregate-text
-slice-aggregate-text c = search needs
-
-text-requires : tie.Need-text-requires
-text-requires c κs = search needs
-
-number-requires : tie.Need-number-requires
-number-requires c κs = search needs
-
-enum-known-a-2 : tie.Need-enum-known-a-2
-enum-known-a-2 c = search needs
-
-refusal-requires : tie.Need-refusal-requires
-refusal-requires c κs = search needs
 
 returns : tie.Need-returns
 returns c = search needs
@@ -42,13 +21,13 @@ pub read-signed-spec : {M : Type 1} → statement M
 read-signed-spec =
     tie.close
     (tie.spec
-    enum-known-a
+    (λ c. search needs)
     cast-signed
-    signed-requires
-    slice-aggregate-text
-    text-requires
-    number-requires
-    enum-known-a-2
-    refusal-requires
+    (λ c κs. search needs)
+    (λ c. search needs)
+    (λ c κs. search needs)
+    (λ c κs. search needs)
+    (λ c. search needs)
+    (λ c κs. search needs)
     returns
     returns-2)

@@ -15,12 +15,6 @@ use Rattle.try_bits.proofs.show.signed.Lts as lts
 use Rattle.try_bits.proofs.show.number.Reads as number-reads
 use Rattle.try_bits.proofs.show.text.Reads as text-reads
 
-slice-aggregate-text : tie.Need-slice-aggregate-text
-slice-aggregate-text c = search needs
-
-text-requires : tie.Need-text-requires
-text-requires c κs = search needs
-
 -- the number is below zero
 below : (c : tie.After-text) → Turns (c .before .before .before .args .n +ℤ pos 1)
 below c =
@@ -48,17 +42,11 @@ add-number-2 c =
     let f : SFits w64 (c .before .before .before .args .n) = search needs in
     rw (toZ-ofZ f, toZ-ofZ (below c .plus), toZ-ofZ (below c .minus)) (record { fits = omega (arith, below c .small) })
 
-number-requires : tie.Need-number-requires
-number-requires c κs = search needs
-
 cast-number-2 : tie.Need-cast-number-2
 cast-number-2 c =
     let n : ℤ = c .before .args .n in
     let f : SFits w64 n = search needs in
     rw (toZ-ofZ f) (not-negative n f (rw (toZ-ofZ f) at (c .if1 .left)))
-
-number-requires-2 : tie.Need-number-requires-2
-number-requires-2 c κs = search needs
 
 returns : tie.Need-returns
 returns c = search needs
@@ -70,14 +58,14 @@ pub signed-spec : {M : Type 1} → statement M
 signed-spec =
     tie.close
     (tie.spec
-    slice-aggregate-text
-    text-requires
+    (λ c. search needs)
+    (λ c κs. search needs)
     add-number
     sub-number
     cast-number
     add-number-2
-    number-requires
+    (λ c κs. search needs)
     cast-number-2
-    number-requires-2
+    (λ c κs. search needs)
     returns
     returns-2)

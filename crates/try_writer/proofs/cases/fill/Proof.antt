@@ -9,24 +9,6 @@ Inv-loop numbers₀ signed₀ l0₀ l1₀ marking₀ w0₀ w1₀ from step times
 abbrev μ-loop : tie.MeasureT-loop
 μ-loop numbers₀ signed₀ l0₀ l1₀ marking₀ w0₀ w1₀ from step times v at₀ i₀ numbers signed l0 l1 marking w0 w1 at i = times - i
 
-loop-holds : tie.Need-loop-holds Inv-loop μ-loop
-loop-holds c = search needs
-
-put-requires : tie.Need-put-requires Inv-loop μ-loop
-put-requires c κs = search needs
-
-later-requires : tie.Need-later-requires Inv-loop μ-loop
-later-requires c κs = search needs
-
-add-i : tie.Need-add-i Inv-loop μ-loop
-add-i c = search needs
-
-loop-less : tie.Need-loop-less Inv-loop μ-loop
-loop-less c = search needs
-
-loop-again : tie.Need-loop-again Inv-loop μ-loop
-loop-again c = search needs
-
 returns : tie.Need-returns Inv-loop μ-loop
 returns c = search needs
 
@@ -36,10 +18,10 @@ fill-spec =
     (tie.spec
     Inv-loop
     μ-loop
-    loop-holds
-    put-requires
-    later-requires
-    add-i
-    loop-less
-    loop-again
+    (λ c. search needs)
+    (λ c κs. search needs)
+    (λ c κs. search needs)
+    (λ c. search needs)
+    (λ c. search needs)
+    (λ c. search needs)
     returns)

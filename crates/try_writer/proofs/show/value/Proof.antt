@@ -7,20 +7,11 @@ use Rattle.try_writer.proofs.Signs.{not-negative}
 use Rattle.try_writer.proofs.show.value.Statement.{statement}
 use Rattle.try_writer.proofs.show.value.Tie as tie
 
-slice-aggregate-text : tie.Need-slice-aggregate-text
-slice-aggregate-text c = search needs
-
-text-requires : tie.Need-text-requires
-text-requires c κs = search needs
-
 cast-number : tie.Need-cast-number
 cast-number c =
     let n : ℤ = c .before .args .z in
     let f : SFits w64 n = search needs in
     rw (toZ-ofZ f) (not-negative n f (rw (toZ-ofZ f) at (c .if1 .left)))
-
-number-requires : tie.Need-number-requires
-number-requires c κs = search needs
 
 returns : tie.Need-returns
 returns c = search needs
@@ -31,4 +22,4 @@ returns-2 c = search needs
 pub value-spec : {M : Type 1} → statement M
 value-spec =
     tie.close
-    (tie.spec slice-aggregate-text text-requires cast-number number-requires returns returns-2)
+    (tie.spec (λ c. search needs) (λ c κs. search needs) cast-number (λ c κs. search needs) returns returns-2)

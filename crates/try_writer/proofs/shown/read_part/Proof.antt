@@ -7,24 +7,6 @@ use Rattle.try_writer.proofs.shown.read_part.Tie as tie
 slice-aggregate-read-in-turn : tie.Need-slice-aggregate-read-in-turn
 slice-aggregate-read-in-turn c = sym (length-take-le _ _ (search needs))
 
-slice-aggregate-read-in-turn-2 : tie.Need-slice-aggregate-read-in-turn-2
-slice-aggregate-read-in-turn-2 c = search needs
-
-read-in-turn-requires : tie.Need-read-in-turn-requires
-read-in-turn-requires c κs = search needs
-
-header-requires : tie.Need-header-requires
-header-requires c κs = search needs
-
-slice-aggregate-text : tie.Need-slice-aggregate-text
-slice-aggregate-text c = search needs
-
-text-requires : tie.Need-text-requires
-text-requires c κs = search needs
-
-told-requires : tie.Need-told-requires
-told-requires c κs = search needs
-
 returns : tie.Need-returns
 returns c = search needs
 
@@ -36,11 +18,11 @@ read-part-spec =
     tie.close
     (tie.spec
     slice-aggregate-read-in-turn
-    slice-aggregate-read-in-turn-2
-    read-in-turn-requires
-    header-requires
-    slice-aggregate-text
-    text-requires
-    told-requires
+    (λ c. search needs)
+    (λ c κs. search needs)
+    (λ c κs. search needs)
+    (λ c. search needs)
+    (λ c κs. search needs)
+    (λ c κs. search needs)
     returns
     returns-2)

@@ -2,18 +2,6 @@ use borrow.Author.Needs.{needs}
 use Rattle.unit.proofs.answer.long_answer.Statement.{statement}
 use Rattle.unit.proofs.answer.long_answer.Tie as tie
 
-enum-known-a : tie.Need-enum-known-a
-enum-known-a c = search needs
-
-enum-told : tie.Need-enum-told
-enum-told c = search needs
-
-enum-known-a-2 : tie.Need-enum-known-a-2
-enum-known-a-2 c = search needs
-
-enum-known-a-3 : tie.Need-enum-known-a-3
-enum-known-a-3 c = search needs
-
 returns : tie.Need-returns
 returns c = rw (c .before .a .given .1)
 
@@ -30,10 +18,10 @@ pub long-answer-spec : {M : Type 1} → statement M
 long-answer-spec =
     tie.close
     (tie.spec
-    enum-known-a
-    enum-told
-    enum-known-a-2
-    enum-known-a-3
+    (λ c. search needs)
+    (λ c. search needs)
+    (λ c. search needs)
+    (λ c. search needs)
     returns
     returns-2
     returns-3

@@ -4,18 +4,9 @@ use borrow.Author.Needs.{needs}
 use Rattle.unit.proofs.begin.extended.Statement.{statement}
 use Rattle.unit.proofs.begin.extended.Tie as tie
 
-type-id-requires : tie.Need-type-id-requires
-type-id-requires c κs = search needs
-
-prefix-kind-requires : tie.Need-prefix-kind-requires
-prefix-kind-requires c κs = search needs
-
 returns : tie.Need-returns
 unfolding extended
 returns c = rw (c .prefix-kind .ensures, ← c .before .before .type-id .ensures, eq-eqb _ _ (c .before .if1 .taken))
-
-kind-of-requires : tie.Need-kind-of-requires
-kind-of-requires c κs = search needs
 
 returns-2 : tie.Need-returns-2
 unfolding extended
@@ -25,8 +16,8 @@ pub extended-spec : {M : Type 1} → statement M
 extended-spec =
     tie.close
     (tie.spec
-    type-id-requires
-    prefix-kind-requires
+    (λ c κs. search needs)
+    (λ c κs. search needs)
     returns
-    kind-of-requires
+    (λ c κs. search needs)
     returns-2)

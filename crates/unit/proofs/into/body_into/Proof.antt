@@ -7,29 +7,11 @@ use borrow.Author.Needs.{needs}
 use Rattle.unit.proofs.into.body_into.Statement.{statement}
 use Rattle.unit.proofs.into.body_into.Tie as tie
 
-unescape-requires : tie.Need-unescape-requires
-unescape-requires c κs = search needs
-
-enum-known-n : tie.Need-enum-known-n
-enum-known-n c = search needs
-
 slice-reshare-prefix-prefix-into : tie.Need-slice-reshare-prefix-prefix-into
 slice-reshare-prefix-prefix-into c = written _ _ _ _ (c .before .before .before .before .before .before .before .before .before .pre) (c .before .before .before .before .before .unescape .ensures .1) (sym (c .before .n .given .1) ∙ c .before .before .before .before .before .unescape .ensures .0)
 
 slice-aggregate-prefix-into : tie.Need-slice-aggregate-prefix-into
 slice-aggregate-prefix-into c = sym (length-take-le _ _ (written _ _ _ _ (c .before .before .before .before .before .before .before .before .before .before .pre) (c .before .before .before .before .before .before .unescape .ensures .1) (sym (c .before .before .n .given .1) ∙ c .before .before .before .before .before .before .unescape .ensures .0)))
-
-prefix-into-requires : tie.Need-prefix-into-requires
-prefix-into-requires c κs = search needs
-
-body-short-requires : tie.Need-body-short-requires
-body-short-requires c κs = search needs
-
-enum-known-r : tie.Need-enum-known-r
-enum-known-r c = search needs
-
-same-length : tie.Need-same-length
-same-length c = search needs
 
 returns : tie.Need-returns
 returns c =
@@ -37,9 +19,6 @@ returns c =
     let u = c .before .before .before .before .before .before .before .before .before .unescape .ensures in
     let p = c .before .prefix-into .ensures in
     body-taken _ _ (opened _ _ _ _ (c .before .before .before .before .before .before .before .before .before .before .before .before .before .pre) (u .1) (sym (c .before .before .before .before .before .n .given .1) ∙ u .0) (prefixBits (a .kind))) (a .base .now) (p .0) (p .1) (c .body-short .ensures)
-
-same-length-2 : tie.Need-same-length-2
-same-length-2 c = search needs
 
 returns-2 : tie.Need-returns-2
 returns-2 c =
@@ -50,14 +29,14 @@ pub body-into-spec : {M : Type 1} → statement M
 body-into-spec =
     tie.close
     (tie.spec
-    unescape-requires
-    enum-known-n
+    (λ c κs. search needs)
+    (λ c. search needs)
     slice-reshare-prefix-prefix-into
     slice-aggregate-prefix-into
-    prefix-into-requires
-    body-short-requires
-    enum-known-r
-    same-length
+    (λ c κs. search needs)
+    (λ c κs. search needs)
+    (λ c. search needs)
+    (λ c. search needs)
     returns
-    same-length-2
+    (λ c. search needs)
     returns-2)

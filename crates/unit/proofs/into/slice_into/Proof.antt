@@ -8,29 +8,11 @@ use borrow.Author.Needs.{needs}
 use Rattle.unit.proofs.into.slice_into.Statement.{statement}
 use Rattle.unit.proofs.into.slice_into.Tie as tie
 
-unescape-requires : tie.Need-unescape-requires
-unescape-requires c κs = search needs
-
-enum-known-n : tie.Need-enum-known-n
-enum-known-n c = search needs
-
 slice-reshare-prefix-read-header-into : tie.Need-slice-reshare-prefix-read-header-into
 slice-reshare-prefix-read-header-into c = written _ _ _ _ (c .before .before .before .before .before .before .before .before .before .pre) (c .before .before .before .before .before .unescape .ensures .1) (sym (c .before .n .given .1) ∙ c .before .before .before .before .before .unescape .ensures .0)
 
 slice-aggregate-read-header-into : tie.Need-slice-aggregate-read-header-into
 slice-aggregate-read-header-into c = sym (length-take-le _ _ (written _ _ _ _ (c .before .before .before .before .before .before .before .before .before .before .pre) (c .before .before .before .before .before .before .unescape .ensures .1) (sym (c .before .before .n .given .1) ∙ c .before .before .before .before .before .before .unescape .ensures .0)))
-
-read-header-into-requires : tie.Need-read-header-into-requires
-read-header-into-requires c κs = search needs
-
-slice-short-requires : tie.Need-slice-short-requires
-slice-short-requires c κs = search needs
-
-enum-known-r : tie.Need-enum-known-r
-enum-known-r c = search needs
-
-same-length : tie.Need-same-length
-same-length c = search needs
 
 returns : tie.Need-returns
 returns c =
@@ -38,9 +20,6 @@ returns c =
     let u = c .before .before .before .before .before .before .before .before .before .before .before .before .before .before .before .unescape .ensures in
     let h = c .before .read-header-into .ensures in
     slice-taken _ _ _ (opened _ _ _ _ (c .before .before .before .before .before .before .before .before .before .before .before .before .before .before .before .before .before .before .before .pre) (u .1) (sym (c .before .before .before .before .before .before .before .before .before .before .before .n .given .1) ∙ u .0) (sliceBits (tableOf (a .sequences .now) (a .pictures .now)) (a .kind))) (record { numbers = a .numbers .now; signed = a .signed .now; l0 = a .l0 .now; l1 = a .l1 .now; marking = a .marking .now; w0 = a .w0 .now; w1 = a .w1 .now }) (h .0) (h .1) (c .slice-short .ensures)
-
-same-length-2 : tie.Need-same-length-2
-same-length-2 c = search needs
 
 returns-2 : tie.Need-returns-2
 returns-2 c =
@@ -52,14 +31,14 @@ pub slice-into-spec : {M : Type 1} → statement M
 slice-into-spec =
     tie.close
     (tie.spec
-    unescape-requires
-    enum-known-n
+    (λ c κs. search needs)
+    (λ c. search needs)
     slice-reshare-prefix-read-header-into
     slice-aggregate-read-header-into
-    read-header-into-requires
-    slice-short-requires
-    enum-known-r
-    same-length
+    (λ c κs. search needs)
+    (λ c κs. search needs)
+    (λ c. search needs)
+    (λ c. search needs)
     returns
-    same-length-2
+    (λ c. search needs)
     returns-2)

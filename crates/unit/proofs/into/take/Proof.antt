@@ -6,36 +6,15 @@ use borrow.Author.Needs.{needs}
 use Rattle.unit.proofs.into.take.Statement.{statement}
 use Rattle.unit.proofs.into.take.Tie as tie
 
-begin-requires : tie.Need-begin-requires
-begin-requires c κs = search needs
-
-enum-known-kind : tie.Need-enum-known-kind
-enum-known-kind c = search needs
-
 slice-into-requires : tie.Need-slice-into-requires
 slice-into-requires c κs = begun-small _ _ (sym (c .before .before .before .before .before .before .before .before .before .kind .given .1) ∙ c .before .before .before .before .before .before .before .before .before .before .before .begin .ensures) refl
-
-enum-known-kind-2 : tie.Need-enum-known-kind-2
-enum-known-kind-2 c = search needs
 
 body-into-requires : tie.Need-body-into-requires
 body-into-requires c κs = begun-small _ _ (sym (c .before .before .before .kind2 .given .1) ∙ c .before .before .before .before .before .begin .ensures) refl
 
-enum-known-id : tie.Need-enum-known-id
-enum-known-id c = search needs
-
-enum-known-r : tie.Need-enum-known-r
-enum-known-r c = search needs
-
-same-length : tie.Need-same-length
-same-length c = search needs
-
 returns : tie.Need-returns
 unfolding unitRead
 returns c = rw (← c .before .before .before .before .before .before .before .before .before .before .before .before .before .before .begin .ensures, c .before .before .before .before .before .before .before .before .before .before .before .before .kind .given .1) (c .before .before .slice-into .ensures (c .before .before .before .before .before .before .before .before .before .before .before .before .before .before .before .before .before .args .base .now))
-
-same-length-2 : tie.Need-same-length-2
-same-length-2 c = search needs
 
 returns-2 : tie.Need-returns-2
 unfolding unitRead
@@ -55,16 +34,16 @@ pub take-spec : {M : Type 1} → statement M
 take-spec =
     tie.close
     (tie.spec
-    begin-requires
-    enum-known-kind
+    (λ c κs. search needs)
+    (λ c. search needs)
     slice-into-requires
-    enum-known-kind-2
+    (λ c. search needs)
     body-into-requires
-    enum-known-id
-    enum-known-r
-    same-length
+    (λ c. search needs)
+    (λ c. search needs)
+    (λ c. search needs)
     returns
-    same-length-2
+    (λ c. search needs)
     returns-2
     returns-3
     returns-4)

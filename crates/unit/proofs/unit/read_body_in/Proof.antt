@@ -4,21 +4,6 @@ use borrow.Author.Needs.{needs}
 use Rattle.unit.proofs.unit.read_body_in.Statement.{statement}
 use Rattle.unit.proofs.unit.read_body_in.Tie as tie
 
-read-body-into-requires : tie.Need-read-body-into-requires
-read-body-into-requires c κs = search needs
-
-long-answer-requires : tie.Need-long-answer-requires
-long-answer-requires c κs = search needs
-
-header-of-requires : tie.Need-header-of-requires
-header-of-requires c κs = search needs
-
-prefix-in-requires : tie.Need-prefix-in-requires
-prefix-in-requires c κs = search needs
-
-prefix-of-requires : tie.Need-prefix-of-requires
-prefix-of-requires c κs = search needs
-
 same-length : tie.Need-same-length
 same-length c = c .before .before .before .before .before .before .before .before .before .before .before .before .before .before .read-body-into .kept .1 .1 .1 .1 .0
 
@@ -35,10 +20,10 @@ pub read-body-in-spec : {M : Type 1} → statement M
 read-body-in-spec =
     tie.close
     (tie.spec
-    read-body-into-requires
-    long-answer-requires
-    header-of-requires
-    prefix-in-requires
-    prefix-of-requires
+    (λ c κs. search needs)
+    (λ c κs. search needs)
+    (λ c κs. search needs)
+    (λ c κs. search needs)
+    (λ c κs. search needs)
     same-length
     returns)

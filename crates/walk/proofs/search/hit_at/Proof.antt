@@ -4,26 +4,11 @@ use Rattle.walk.proofs.Hits.{hit-no-1, hit-no-2, hit-no-3, hit-yes}
 use Rattle.walk.proofs.search.hit_at.Statement.{statement}
 use Rattle.walk.proofs.search.hit_at.Tie as tie
 
-shared-slice-read-if1 : tie.Need-shared-slice-read-if1
-shared-slice-read-if1 c = search needs
-
 returns : tie.Need-returns
 returns c = let a = c .before .before in sym (hit-no-1 (a .args .least) (a .args .s .now) (a .args .i) (a .pre) (c .if1 .taken))
 
-add-if2 : tie.Need-add-if2
-add-if2 c = search needs
-
-shared-slice-read-if2 : tie.Need-shared-slice-read-if2
-shared-slice-read-if2 c = search needs
-
 returns-2 : tie.Need-returns-2
 returns-2 c = let a = c .before .before .before .before in sym (hit-no-2 (a .args .least) (a .args .s .now) (a .args .i) (a .pre) (c .if2 .taken))
-
-add-c : tie.Need-add-c
-add-c c = search needs
-
-shared-slice-read-c : tie.Need-shared-slice-read-c
-shared-slice-read-c c = search needs
 
 returns-3 : tie.Need-returns-3
 returns-3 c = let a = c .before .before .before .before .before .before in sym (hit-no-3 (a .args .least) (a .args .s .now) (a .args .i) (a .pre) (c .if3 .taken))
@@ -35,12 +20,12 @@ pub hit-at-spec : {M : Type 1} → statement M
 hit-at-spec =
     tie.close
     (tie.spec
-    shared-slice-read-if1
+    (λ c. search needs)
     returns
-    add-if2
-    shared-slice-read-if2
+    (λ c. search needs)
+    (λ c. search needs)
     returns-2
-    add-c
-    shared-slice-read-c
+    (λ c. search needs)
+    (λ c. search needs)
     returns-3
     returns-4)

@@ -11,22 +11,10 @@ use Rattle.walk.proofs.search.next_unit.Tie as tie
 returns : tie.Need-returns
 returns c = let a = c .before .before .args in none-from (a .recording .now) (a .from) _ refl (omega arith)
 
-seek-start-requires : tie.Need-seek-start-requires
-seek-start-requires c κs = search needs
-
 returns-2 : tie.Need-returns-2
 returns-2 c =
     let a = c .before .before .before .before .args in
     none-from (a .recording .now) (a .from) (c .before .seek-start .result) (c .before .seek-start .ensures) (c .if2 .taken)
-
-add-place : tie.Need-add-place
-add-place c = search needs
-
-seek-requires : tie.Need-seek-requires
-seek-requires c κs = search needs
-
-sub-t10 : tie.Need-sub-t10
-sub-t10 c = search needs
 
 trim-requires : tie.Need-trim-requires
 trim-requires c κs =
@@ -52,11 +40,11 @@ next-unit-spec =
     tie.close
     (tie.spec
     returns
-    seek-start-requires
+    (λ c κs. search needs)
     returns-2
-    add-place
-    seek-requires
-    sub-t10
+    (λ c. search needs)
+    (λ c κs. search needs)
+    (λ c. search needs)
     trim-requires
     returns-3
     returns-4)

@@ -4,17 +4,8 @@ use borrow.Author.Needs.{needs}
 use Rattle.walk.proofs.walk.next_step.Statement.{statement}
 use Rattle.walk.proofs.walk.next_step.Tie as tie
 
-refuse-requires : tie.Need-refuse-requires
-refuse-requires c κs = search needs
-
 returns : tie.Need-returns
 returns c = rw (c .refuse .ensures) (step-over _ _ (c .before .if1 .taken))
-
-next-unit-requires : tie.Need-next-unit-requires
-next-unit-requires c κs = search needs
-
-enum-known-place : tie.Need-enum-known-place
-enum-known-place c = search needs
 
 enum-told : tie.Need-enum-told
 enum-told c = search needs
@@ -29,10 +20,10 @@ pub next-step-spec : {M : Type 1} → statement M
 next-step-spec =
     tie.close
     (tie.spec
-    refuse-requires
+    (λ c κs. search needs)
     returns
-    next-unit-requires
-    enum-known-place
+    (λ c κs. search needs)
+    (λ c. search needs)
     enum-told
     returns-2
     returns-3)

@@ -7,81 +7,24 @@ use borrow.Author.Needs.{needs}
 use Rattle.weights.proofs.weight.chroma_half.Statement.{statement}
 use Rattle.weights.proofs.weight.chroma_half.Tie as tie
 
-given-flag-requires : tie.Need-given-flag-requires
-given-flag-requires c κs = search needs
-
-enum-known-a1 : tie.Need-enum-known-a1
-enum-known-a1 c = search needs
-
 enum-told : tie.Need-enum-told
 enum-told c = search needs
-
-why-flag-requires : tie.Need-why-flag-requires
-why-flag-requires c κs = search needs
 
 returns : tie.Need-returns
 unfolding chromaHalf seq
 returns c = rw (c .why-flag .ensures, ← c .before .before .before .given-flag .ensures, c .before .enum-told .given .1)
 
-given-signed-requires : tie.Need-given-signed-requires
-given-signed-requires c κs = search needs
-
-enum-known-a2 : tie.Need-enum-known-a2
-enum-known-a2 c = search needs
-
-enum-told-2 : tie.Need-enum-told-2
-enum-told-2 c = search needs
-
-why-given-requires : tie.Need-why-given-requires
-why-given-requires c κs = search needs
-
 returns-2 : tie.Need-returns-2
 unfolding chromaHalf seq
 returns-2 c = rw (c .why-given .ensures, ← c .before .before .before .before .before .before .before .given-flag .ensures, c .before .before .before .before .before .a1 .given .1, ← c .before .before .before .given-signed .ensures, c .before .enum-told2 .given .1)
-
-given-signed-requires-2 : tie.Need-given-signed-requires-2
-given-signed-requires-2 c κs = search needs
-
-enum-known-a3 : tie.Need-enum-known-a3
-enum-known-a3 c = search needs
-
-enum-told-3 : tie.Need-enum-told-3
-enum-told-3 c = search needs
-
-why-given-requires-2 : tie.Need-why-given-requires-2
-why-given-requires-2 c κs = search needs
 
 returns-3 : tie.Need-returns-3
 unfolding chromaHalf seq
 returns-3 c = rw (c .why-given2 .ensures, ← c .before .before .before .before .before .before .before .before .before .before .before .given-flag .ensures, c .before .before .before .before .before .before .before .before .before .a1 .given .1, ← c .before .before .before .before .before .before .before .given-signed .ensures, c .before .before .before .before .before .a2 .given .1, ← c .before .before .before .given-signed2 .ensures, c .before .enum-told3 .given .1)
 
-given-signed-requires-3 : tie.Need-given-signed-requires-3
-given-signed-requires-3 c κs = search needs
-
-enum-known-a4 : tie.Need-enum-known-a4
-enum-known-a4 c = search needs
-
-enum-told-4 : tie.Need-enum-told-4
-enum-told-4 c = search needs
-
-why-given-requires-3 : tie.Need-why-given-requires-3
-why-given-requires-3 c κs = search needs
-
 returns-4 : tie.Need-returns-4
 unfolding chromaHalf seq
 returns-4 c = rw (c .why-given3 .ensures, ← c .before .before .before .before .before .before .before .before .before .before .before .before .before .before .before .given-flag .ensures, c .before .before .before .before .before .before .before .before .before .before .before .before .before .a1 .given .1, ← c .before .before .before .before .before .before .before .before .before .before .before .given-signed .ensures, c .before .before .before .before .before .before .before .before .before .a2 .given .1, ← c .before .before .before .before .before .before .before .given-signed2 .ensures, c .before .before .before .before .before .a3 .given .1, ← c .before .before .before .given-signed3 .ensures, c .before .enum-told4 .given .1)
-
-given-signed-requires-4 : tie.Need-given-signed-requires-4
-given-signed-requires-4 c κs = search needs
-
-enum-known-a5 : tie.Need-enum-known-a5
-enum-known-a5 c = search needs
-
-enum-told-5 : tie.Need-enum-told-5
-enum-told-5 c = search needs
-
-why-given-requires-4 : tie.Need-why-given-requires-4
-why-given-requires-4 c κs = search needs
 
 returns-5 : tie.Need-returns-5
 unfolding chromaHalf seq
@@ -100,29 +43,29 @@ pub chroma-half-spec : {M : Type 1} → statement M
 chroma-half-spec =
     tie.close
     (tie.spec
-    given-flag-requires
-    enum-known-a1
+    (λ c κs. search needs)
+    (λ c. search needs)
     enum-told
-    why-flag-requires
+    (λ c κs. search needs)
     returns
-    given-signed-requires
-    enum-known-a2
-    enum-told-2
-    why-given-requires
+    (λ c κs. search needs)
+    (λ c. search needs)
+    (λ c. search needs)
+    (λ c κs. search needs)
     returns-2
-    given-signed-requires-2
-    enum-known-a3
-    enum-told-3
-    why-given-requires-2
+    (λ c κs. search needs)
+    (λ c. search needs)
+    (λ c. search needs)
+    (λ c κs. search needs)
     returns-3
-    given-signed-requires-3
-    enum-known-a4
-    enum-told-4
-    why-given-requires-3
+    (λ c κs. search needs)
+    (λ c. search needs)
+    (λ c. search needs)
+    (λ c κs. search needs)
     returns-4
-    given-signed-requires-4
-    enum-known-a5
-    enum-told-5
-    why-given-requires-4
+    (λ c κs. search needs)
+    (λ c. search needs)
+    (λ c. search needs)
+    (λ c κs. search needs)
     returns-5
     returns-6)

@@ -6,32 +6,11 @@ use borrow.Author.Needs.{needs}
 use Rattle.weights.proofs.weight.weight.Statement.{statement}
 use Rattle.weights.proofs.weight.weight.Tie as tie
 
-luma-half-requires : tie.Need-luma-half-requires
-luma-half-requires c κs = search needs
-
-enum-known-a1 : tie.Need-enum-known-a1
-enum-known-a1 c = search needs
-
 enum-told : tie.Need-enum-told
 enum-told c = search needs
 
-why-luma-requires : tie.Need-why-luma-requires
-why-luma-requires c κs = search needs
-
 returns : tie.Need-returns
 returns c = rw (joined, c .why-luma .ensures, ← c .before .before .before .luma-half .ensures, c .before .enum-told .given .1)
-
-chroma-half-requires : tie.Need-chroma-half-requires
-chroma-half-requires c κs = search needs
-
-enum-known-a2 : tie.Need-enum-known-a2
-enum-known-a2 c = search needs
-
-enum-told-2 : tie.Need-enum-told-2
-enum-told-2 c = search needs
-
-why-chroma-requires : tie.Need-why-chroma-requires
-why-chroma-requires c κs = search needs
 
 returns-2 : tie.Need-returns-2
 returns-2 c = rw (joined, c .why-chroma .ensures, ← c .before .before .before .before .before .before .before .luma-half .ensures, c .before .before .before .before .before .a1 .given .1, ← c .before .before .before .chroma-half .ensures, c .before .enum-told2 .given .1)
@@ -50,14 +29,14 @@ pub weight-spec : {M : Type 1} → statement M
 weight-spec =
     tie.close
     (tie.spec
-    luma-half-requires
-    enum-known-a1
+    (λ c κs. search needs)
+    (λ c. search needs)
     enum-told
-    why-luma-requires
+    (λ c κs. search needs)
     returns
-    chroma-half-requires
-    enum-known-a2
-    enum-told-2
-    why-chroma-requires
+    (λ c κs. search needs)
+    (λ c. search needs)
+    (λ c. search needs)
+    (λ c κs. search needs)
     returns-2
     returns-3)

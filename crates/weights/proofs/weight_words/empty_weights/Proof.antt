@@ -14,15 +14,6 @@ Inv-loop words₀ count end k₀ words k = Emptying (pos 0) 256 words₀ end wor
 abbrev μ-loop : tie.MeasureT-loop
 μ-loop words₀ count end k₀ words k = end - k
 
-at-most-32-requires : tie.Need-at-most-32-requires Inv-loop μ-loop
-at-most-32-requires c κs = search needs
-
-cast-end : tie.Need-cast-end Inv-loop μ-loop
-cast-end c = search needs
-
-mul-end : tie.Need-mul-end Inv-loop μ-loop
-mul-end c = search needs
-
 loop-holds : tie.Need-loop-holds Inv-loop μ-loop
 loop-holds c = emptying-none _ _ _ _ (omega (arith, c .at-most-32 .ensures, at-most-32 (c .before .args .count)))
 
@@ -32,12 +23,6 @@ mul-words c = omega (arith, emptying-in _ _ _ _ (c .before .loop .inv) (search n
 element-set-of-words : tie.Need-element-set-of-words Inv-loop μ-loop
 element-set-of-words c = emptying-in _ _ _ _ (c .before .loop .inv) (search needs)
 
-add-k : tie.Need-add-k Inv-loop μ-loop
-add-k c = search needs
-
-loop-less : tie.Need-loop-less Inv-loop μ-loop
-loop-less c = search needs
-
 loop-again : tie.Need-loop-again Inv-loop μ-loop
 loop-again c = emptying-more _ _ _ _ (c .before .loop .inv) (search needs)
 
@@ -46,4 +31,4 @@ unfolding emptiedWeights
 returns c = rw (← c .before .before .at-most-32 .ensures) (emptied _ _ _ _ (c .before .loop .inv) (search needs))
 
 pub empty-weights-spec : {M : Type 1} → statement M
-empty-weights-spec = tie.close (tie.spec Inv-loop μ-loop at-most-32-requires cast-end mul-end loop-holds mul-words element-set-of-words add-k loop-less loop-again returns)
+empty-weights-spec = tie.close (tie.spec Inv-loop μ-loop (λ c κs. search needs) (λ c. search needs) (λ c. search needs) loop-holds mul-words element-set-of-words (λ c. search needs) (λ c. search needs) loop-again returns)

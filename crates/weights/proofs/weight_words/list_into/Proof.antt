@@ -16,23 +16,11 @@ Inv-loop s chroma n words₀ count i₀ at₀ words i at = Stored chroma count (
 abbrev μ-loop : tie.MeasureT-loop
 μ-loop s chroma n words₀ count i₀ at₀ words i at = count - i
 
-at-most-32-requires : tie.Need-at-most-32-requires Inv-loop μ-loop
-at-most-32-requires c κs = search needs
-
 loop-holds : tie.Need-loop-holds Inv-loop μ-loop
 loop-holds c = stored-none _ _ _ _ _ (rw (c .at-most-32 .ensures) (at-most-32 (c .before .before .args .n)))
 
-weight-requires : tie.Need-weight-requires Inv-loop μ-loop
-weight-requires c κs = search needs
-
-enum-known-a : tie.Need-enum-known-a Inv-loop μ-loop
-enum-known-a c = search needs
-
 enum-told : tie.Need-enum-told Inv-loop μ-loop
 enum-told c = search needs
-
-why-weight-requires : tie.Need-why-weight-requires Inv-loop μ-loop
-why-weight-requires c κs = search needs
 
 returns : tie.Need-returns Inv-loop μ-loop
 returns c =
@@ -42,18 +30,6 @@ returns c =
     let a = l .before .before .before .args in
     let u : weight (a .chroma) .read (bitsOf (a .s .now)) (l .loop .at .at) ≡ no (c .why-weight .result) = sym (g .weight .ensures) ∙ rw (c .why-weight .ensures, t .enum-told .given .1) in
     rw (← l .before .at-most-32 .ensures) (stored-refused _ _ _ _ _ (l .loop .inv) (search needs) _ u)
-
-cast-k : tie.Need-cast-k Inv-loop μ-loop
-cast-k c = search needs
-
-store-requires : tie.Need-store-requires Inv-loop μ-loop
-store-requires c κs = search needs
-
-add-i : tie.Need-add-i Inv-loop μ-loop
-add-i c = search needs
-
-loop-less : tie.Need-loop-less Inv-loop μ-loop
-loop-less c = search needs
 
 loop-again : tie.Need-loop-again Inv-loop μ-loop
 loop-again c =
@@ -73,16 +49,16 @@ list-into-spec =
     (tie.spec
     Inv-loop
     μ-loop
-    at-most-32-requires
+    (λ c κs. search needs)
     loop-holds
-    weight-requires
-    enum-known-a
+    (λ c κs. search needs)
+    (λ c. search needs)
     enum-told
-    why-weight-requires
+    (λ c κs. search needs)
     returns
-    cast-k
-    store-requires
-    add-i
-    loop-less
+    (λ c. search needs)
+    (λ c κs. search needs)
+    (λ c. search needs)
+    (λ c. search needs)
     loop-again
     returns-2)

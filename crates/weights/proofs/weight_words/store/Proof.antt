@@ -7,84 +7,6 @@ use borrow.Author.Needs.{needs}
 use Rattle.weights.proofs.weight_words.store.Statement.{statement}
 use Rattle.weights.proofs.weight_words.store.Tie as tie
 
-flag-word-requires : tie.Need-flag-word-requires
-flag-word-requires c κs = search needs
-
-flag-word-requires-2 : tie.Need-flag-word-requires-2
-flag-word-requires-2 c κs = search needs
-
-mul-k : tie.Need-mul-k
-mul-k c = search needs
-
-mul-luma-weight-flag : tie.Need-mul-luma-weight-flag
-mul-luma-weight-flag c = search needs
-
-element-set-from-luma-weight-flag : tie.Need-element-set-from-luma-weight-flag
-element-set-from-luma-weight-flag c = search needs
-
-add-luma-weight : tie.Need-add-luma-weight
-add-luma-weight c = search needs
-
-mul-luma-weight : tie.Need-mul-luma-weight
-mul-luma-weight c = search needs
-
-element-set-from-luma-weight : tie.Need-element-set-from-luma-weight
-element-set-from-luma-weight c = search needs
-
-add-luma-offset : tie.Need-add-luma-offset
-add-luma-offset c = search needs
-
-mul-luma-offset : tie.Need-mul-luma-offset
-mul-luma-offset c = search needs
-
-element-set-from-luma-offset : tie.Need-element-set-from-luma-offset
-element-set-from-luma-offset c = search needs
-
-add-chroma-weight-flag : tie.Need-add-chroma-weight-flag
-add-chroma-weight-flag c = search needs
-
-mul-chroma-weight-flag : tie.Need-mul-chroma-weight-flag
-mul-chroma-weight-flag c = search needs
-
-element-set-from-chroma-weight-flag : tie.Need-element-set-from-chroma-weight-flag
-element-set-from-chroma-weight-flag c = search needs
-
-add-cb-weight : tie.Need-add-cb-weight
-add-cb-weight c = search needs
-
-mul-cb-weight : tie.Need-mul-cb-weight
-mul-cb-weight c = search needs
-
-element-set-from-cb-weight : tie.Need-element-set-from-cb-weight
-element-set-from-cb-weight c = search needs
-
-add-cb-offset : tie.Need-add-cb-offset
-add-cb-offset c = search needs
-
-mul-cb-offset : tie.Need-mul-cb-offset
-mul-cb-offset c = search needs
-
-element-set-from-cb-offset : tie.Need-element-set-from-cb-offset
-element-set-from-cb-offset c = search needs
-
-add-cr-weight : tie.Need-add-cr-weight
-add-cr-weight c = search needs
-
-mul-cr-weight : tie.Need-mul-cr-weight
-mul-cr-weight c = search needs
-
-element-set-from-cr-weight : tie.Need-element-set-from-cr-weight
-element-set-from-cr-weight c = search needs
-
-add-cr-offset : tie.Need-add-cr-offset
-add-cr-offset c = search needs
-
-mul-cr-offset : tie.Need-mul-cr-offset
-mul-cr-offset c = search needs
-
-element-set-from-cr-offset : tie.Need-element-set-from-cr-offset
-element-set-from-cr-offset c = search needs
-
 returns : tie.Need-returns
 returns c =
     let s = c .before .before .before .before .before .before .before .before in
@@ -103,30 +25,30 @@ pub store-spec : {M : Type 1} → statement M
 store-spec =
     tie.close
     (tie.spec
-    flag-word-requires
-    flag-word-requires-2
-    mul-k
-    mul-luma-weight-flag
-    element-set-from-luma-weight-flag
-    add-luma-weight
-    mul-luma-weight
-    element-set-from-luma-weight
-    add-luma-offset
-    mul-luma-offset
-    element-set-from-luma-offset
-    add-chroma-weight-flag
-    mul-chroma-weight-flag
-    element-set-from-chroma-weight-flag
-    add-cb-weight
-    mul-cb-weight
-    element-set-from-cb-weight
-    add-cb-offset
-    mul-cb-offset
-    element-set-from-cb-offset
-    add-cr-weight
-    mul-cr-weight
-    element-set-from-cr-weight
-    add-cr-offset
-    mul-cr-offset
-    element-set-from-cr-offset
+    (λ c κs. search needs)
+    (λ c κs. search needs)
+    (λ c. search needs)
+    (λ c. search needs)
+    (λ c. search needs)
+    (λ c. search needs)
+    (λ c. search needs)
+    (λ c. search needs)
+    (λ c. search needs)
+    (λ c. search needs)
+    (λ c. search needs)
+    (λ c. search needs)
+    (λ c. search needs)
+    (λ c. search needs)
+    (λ c. search needs)
+    (λ c. search needs)
+    (λ c. search needs)
+    (λ c. search needs)
+    (λ c. search needs)
+    (λ c. search needs)
+    (λ c. search needs)
+    (λ c. search needs)
+    (λ c. search needs)
+    (λ c. search needs)
+    (λ c. search needs)
+    (λ c. search needs)
     returns)

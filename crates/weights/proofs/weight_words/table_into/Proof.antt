@@ -18,9 +18,6 @@ use borrow.Author.Needs.{needs}
 use Rattle.weights.proofs.weight_words.table_into.Statement.{statement}
 use Rattle.weights.proofs.weight_words.table_into.Tie as tie
 
-is-weighted-requires : tie.Need-is-weighted-requires
-is-weighted-requires c κs = search needs
-
 returns : tie.Need-returns
 returns c =
     let a = c .before .before .before .args in
@@ -37,20 +34,8 @@ no-read e w t = sym e ∙ rw (w, t)
 no-number : {a : NumberStep} {m : Res MarkedNumber} {r q : Refusal} → asNumber a ≡ m → r ≡ whyNumber a → a ≡ NumberStep.Refused q → m ≡ no r
 no-number e w t = sym e ∙ rw (w, t)
 
-has-chroma-requires : tie.Need-has-chroma-requires
-has-chroma-requires c κs = search needs
-
-ue-requires : tie.Need-ue-requires
-ue-requires c κs = search needs
-
-enum-known-a1 : tie.Need-enum-known-a1
-enum-known-a1 c = search needs
-
 enum-told : tie.Need-enum-told
 enum-told c = search needs
-
-why-requires : tie.Need-why-requires
-why-requires c κs = search needs
 
 returns-2 : tie.Need-returns-2
 unfolding ue
@@ -59,18 +44,6 @@ returns-2 c =
     let d = u .before in
     table-refused _ _ _ _
     (there-1 _ _ _ _ _ _ (weighted d) _ (d .has-chroma .ensures) (no-read (u .ue .ensures) (c .why .ensures) (c .before .enum-told .given .1)))
-
-number-if-requires : tie.Need-number-if-requires
-number-if-requires c κs = search needs
-
-enum-known-a2 : tie.Need-enum-known-a2
-enum-known-a2 c = search needs
-
-enum-told-2 : tie.Need-enum-told-2
-enum-told-2 c = search needs
-
-why-number-requires : tie.Need-why-number-requires
-why-number-requires c κs = search needs
 
 returns-3 : tie.Need-returns-3
 unfolding ue
@@ -82,18 +55,6 @@ returns-3 c =
     table-refused _ _ _ _
     (there-2 _ _ _ _ _ _ (weighted d) _ (d .has-chroma .ensures) (sym (u .ue .ensures) ∙ ap asRead (p .a1 .given .1))
     (no-number (b .number-if .ensures) (c .why-number .ensures) (c .before .enum-told2 .given .1)))
-
-list-into-requires : tie.Need-list-into-requires
-list-into-requires c κs = search needs
-
-enum-known-a3 : tie.Need-enum-known-a3
-enum-known-a3 c = search needs
-
-enum-told-3 : tie.Need-enum-told-3
-enum-told-3 c = search needs
-
-why-list-requires : tie.Need-why-list-requires
-why-list-requires c κs = search needs
 
 returns-4 : tie.Need-returns-4
 unfolding ue
@@ -107,24 +68,6 @@ returns-4 c =
     let n = list-none (i .list-into .ensures .0) (c .before .enum-told3 .given .1) (c .why-list .ensures) in
     table-refused _ _ _ _
     (there-3 _ _ _ _ _ _ (weighted d) _ (d .has-chroma .ensures) (sym (u .ue .ensures) ∙ ap asRead (p .a1 .given .1)) (sym (b .number-if .ensures) ∙ ap asNumber (q .a2 .given .1)) n)
-
-is-type-requires : tie.Need-is-type-requires
-is-type-requires c κs = search needs
-
-count-if-requires : tie.Need-count-if-requires
-count-if-requires c κs = search needs
-
-list-into-requires-2 : tie.Need-list-into-requires-2
-list-into-requires-2 c κs = search needs
-
-enum-known-a4 : tie.Need-enum-known-a4
-enum-known-a4 c = search needs
-
-enum-told-4 : tie.Need-enum-told-4
-enum-told-4 c = search needs
-
-why-list-requires-2 : tie.Need-why-list-requires-2
-why-list-requires-2 c κs = search needs
 
 returns-5 : tie.Need-returns-5
 unfolding ue
@@ -169,29 +112,29 @@ pub table-into-spec : {M : Type 1} → statement M
 table-into-spec =
     tie.close
     (tie.spec
-    is-weighted-requires
+    (λ c κs. search needs)
     returns
-    has-chroma-requires
-    ue-requires
-    enum-known-a1
+    (λ c κs. search needs)
+    (λ c κs. search needs)
+    (λ c. search needs)
     enum-told
-    why-requires
+    (λ c κs. search needs)
     returns-2
-    number-if-requires
-    enum-known-a2
-    enum-told-2
-    why-number-requires
+    (λ c κs. search needs)
+    (λ c. search needs)
+    (λ c. search needs)
+    (λ c κs. search needs)
     returns-3
-    list-into-requires
-    enum-known-a3
-    enum-told-3
-    why-list-requires
+    (λ c κs. search needs)
+    (λ c. search needs)
+    (λ c. search needs)
+    (λ c κs. search needs)
     returns-4
-    is-type-requires
-    count-if-requires
-    list-into-requires-2
-    enum-known-a4
-    enum-told-4
-    why-list-requires-2
+    (λ c κs. search needs)
+    (λ c κs. search needs)
+    (λ c κs. search needs)
+    (λ c. search needs)
+    (λ c. search needs)
+    (λ c κs. search needs)
     returns-5
     returns-6)

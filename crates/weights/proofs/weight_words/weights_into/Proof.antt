@@ -3,20 +3,8 @@ use borrow.Author.Needs.{needs}
 use Rattle.weights.proofs.weight_words.weights_into.Statement.{statement}
 use Rattle.weights.proofs.weight_words.weights_into.Tie as tie
 
-table-into-requires : tie.Need-table-into-requires
-table-into-requires c κs = search needs
-
 enum-told : tie.Need-enum-told
 enum-told c = search needs
-
-enum-told-2 : tie.Need-enum-told-2
-enum-told-2 c = search needs
-
-clear-weights-requires : tie.Need-clear-weights-requires
-clear-weights-requires c κs = search needs
-
-clear-weights-requires-2 : tie.Need-clear-weights-requires-2
-clear-weights-requires-2 c κs = search needs
 
 returns : tie.Need-returns
 returns c =
@@ -36,10 +24,10 @@ pub weights-into-spec : {M : Type 1} → statement M
 weights-into-spec =
     tie.close
     (tie.spec
-    table-into-requires
+    (λ c κs. search needs)
     enum-told
-    enum-told-2
-    clear-weights-requires
-    clear-weights-requires-2
+    (λ c. search needs)
+    (λ c κs. search needs)
+    (λ c κs. search needs)
     returns
     returns-2)

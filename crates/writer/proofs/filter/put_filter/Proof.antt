@@ -5,21 +5,6 @@ use borrow.Author.Needs.{needs}
 use Rattle.writer.proofs.filter.put_filter.Statement.{statement}
 use Rattle.writer.proofs.filter.put_filter.Tie as tie
 
-put-tested-if-requires : tie.Need-put-tested-if-requires
-put-tested-if-requires c κs = search needs
-
-both-requires : tie.Need-both-requires
-both-requires c κs = search needs
-
-put-offset-if-requires : tie.Need-put-offset-if-requires
-put-offset-if-requires c κs = search needs
-
-put-offset-if-requires-2 : tie.Need-put-offset-if-requires-2
-put-offset-if-requires-2 c κs = search needs
-
-put-bits-if-requires : tie.Need-put-bits-if-requires
-put-bits-if-requires c κs = search needs
-
 same-length : tie.Need-same-length
 same-length c = c .before .before .put-bits-if .kept .0 ∙ c .before .before .before .before .before .before .put-offset-if2 .kept .0 ∙ c .before .before .before .before .before .before .before .before .before .before .put-offset-if .kept .0 ∙ c .before .before .before .before .before .before .before .before .before .before .before .before .before .before .before .before .put-tested-if .kept .0
 
@@ -31,10 +16,10 @@ pub put-filter-spec : {M : Type 1} → statement M
 put-filter-spec =
     tie.close
     (tie.spec
-    put-tested-if-requires
-    both-requires
-    put-offset-if-requires
-    put-offset-if-requires-2
-    put-bits-if-requires
+    (λ c κs. search needs)
+    (λ c κs. search needs)
+    (λ c κs. search needs)
+    (λ c κs. search needs)
+    (λ c κs. search needs)
     same-length
     returns)

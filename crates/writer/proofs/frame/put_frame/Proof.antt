@@ -5,21 +5,6 @@ use borrow.Author.Needs.{needs}
 use Rattle.writer.proofs.frame.put_frame.Statement.{statement}
 use Rattle.writer.proofs.frame.put_frame.Tie as tie
 
-put-colour-plane-if-requires : tie.Need-put-colour-plane-if-requires
-put-colour-plane-if-requires c κs = search needs
-
-put-bits-requires : tie.Need-put-bits-requires
-put-bits-requires c κs = search needs
-
-put-flag-if-requires : tie.Need-put-flag-if-requires
-put-flag-if-requires c κs = search needs
-
-put-flag-if-requires-2 : tie.Need-put-flag-if-requires-2
-put-flag-if-requires-2 c κs = search needs
-
-put-number-if-requires : tie.Need-put-number-if-requires
-put-number-if-requires c κs = search needs
-
 same-length : tie.Need-same-length
 same-length c = c .before .before .put-number-if .kept .0 ∙ c .before .before .before .before .before .before .put-flag-if2 .kept .0 ∙ c .before .before .before .before .before .before .before .before .before .before .put-flag-if .kept .0 ∙ c .before .before .before .before .before .before .before .before .before .before .before .before .before .before .before .before .put-bits .kept .0 ∙ c .before .before .before .before .before .before .before .before .before .before .before .before .before .before .before .before .before .before .before .before .put-colour-plane-if .kept .0
 
@@ -31,10 +16,10 @@ pub put-frame-spec : {M : Type 1} → statement M
 put-frame-spec =
     tie.close
     (tie.spec
-    put-colour-plane-if-requires
-    put-bits-requires
-    put-flag-if-requires
-    put-flag-if-requires-2
-    put-number-if-requires
+    (λ c κs. search needs)
+    (λ c κs. search needs)
+    (λ c κs. search needs)
+    (λ c κs. search needs)
+    (λ c κs. search needs)
     same-length
     returns)

@@ -3,18 +3,6 @@ use borrow.Author.Needs.{needs}
 use Rattle.writer.proofs.given.kind_given.Statement.{statement}
 use Rattle.writer.proofs.given.kind_given.Tie as tie
 
-new-requires : tie.Need-new-requires
-new-requires c κs = search needs
-
-enum-known-h : tie.Need-enum-known-h
-enum-known-h c = search needs
-
-typed-requires : tie.Need-typed-requires
-typed-requires c κs = search needs
-
-enum-known-r : tie.Need-enum-known-r
-enum-known-r c = search needs
-
 returns : tie.Need-returns
 unfolding kindGiven
 returns c = rw (c .typed .ensures, ← c .before .before .before .before .new .ensures, c .before .before .h .given .1)
@@ -25,4 +13,4 @@ returns-2 c = rw (← c .before .before .before .new .ensures, c .before .r .giv
 
 pub kind-given-spec : {M : Type 1} → statement M
 kind-given-spec =
-    tie.close (tie.spec new-requires enum-known-h typed-requires enum-known-r returns returns-2)
+    tie.close (tie.spec (λ c κs. search needs) (λ c. search needs) (λ c κs. search needs) (λ c. search needs) returns returns-2)

@@ -8,30 +8,9 @@ use borrow.Author.Needs.{needs}
 use Rattle.writer.proofs.given.typed.Statement.{statement}
 use Rattle.writer.proofs.given.typed.Tie as tie
 
-nal-unit-type-requires : tie.Need-nal-unit-type-requires
-nal-unit-type-requires c κs = search needs
-
-id-requires : tie.Need-id-requires
-id-requires c κs = search needs
-
-either-requires : tie.Need-either-requires
-either-requires c κs = search needs
-
-kind-of-requires : tie.Need-kind-of-requires
-kind-of-requires c κs = search needs
-
 returns : tie.Need-returns
 unfolding typed
 returns c = rw (c .kind-of .ensures, ← c .before .before .before .before .nal-unit-type .ensures, ← c .before .before .before .id .ensures, ← c .before .before .either .ensures, c .before .if1 .taken)
-
-either-requires-2 : tie.Need-either-requires-2
-either-requires-2 c κs = search needs
-
-cast-refuse : tie.Need-cast-refuse
-cast-refuse c = search needs
-
-refuse-requires : tie.Need-refuse-requires
-refuse-requires c κs = search needs
 
 returns-2 : tie.Need-returns-2
 unfolding typed
@@ -39,18 +18,9 @@ returns-2 c =
     let n : c .before .before .before .before .before .id .result < 2 ^ 63 = omega arith in
     rw (rw (toZ-pos w64 n) at (c .refuse .ensures), ← c .before .before .before .before .before .before .nal-unit-type .ensures, ← c .before .before .before .before .before .id .ensures, ← c .before .before .before .before .either .ensures, c .before .before .before .if1 .left, ← c .before .before .either2 .ensures, not-true (c .before .before .either2 .result) (c .before .if2 .taken))
 
-refuse-requires-2 : tie.Need-refuse-requires-2
-refuse-requires-2 c κs = search needs
-
 returns-3 : tie.Need-returns-3
 unfolding typed
 returns-3 c = rw (c .refuse2 .ensures, ← c .before .before .before .before .before .before .before .before .nal-unit-type .ensures, ← c .before .before .before .before .before .before .before .id .ensures, ← c .before .before .before .before .before .before .either .ensures, c .before .before .before .before .before .if1 .left, ← c .before .before .before .before .either2 .ensures, not-false (c .before .before .before .before .either2 .result) (c .before .before .before .if2 .left), not-true (c .before .before .before .before .before .before .before .before .before .args .x .there) (c .before .if3 .taken))
-
-from-bytes-requires : tie.Need-from-bytes-requires
-from-bytes-requires c κs = search needs
-
-with-extension-requires : tie.Need-with-extension-requires
-with-extension-requires c κs = search needs
 
 returns-4 : tie.Need-returns-4
 unfolding typed
@@ -60,17 +30,17 @@ pub typed-spec : {M : Type 1} → statement M
 typed-spec =
     tie.close
     (tie.spec
-    nal-unit-type-requires
-    id-requires
-    either-requires
-    kind-of-requires
+    (λ c κs. search needs)
+    (λ c κs. search needs)
+    (λ c κs. search needs)
+    (λ c κs. search needs)
     returns
-    either-requires-2
-    cast-refuse
-    refuse-requires
+    (λ c κs. search needs)
+    (λ c. search needs)
+    (λ c κs. search needs)
     returns-2
-    refuse-requires-2
+    (λ c κs. search needs)
     returns-3
-    from-bytes-requires
-    with-extension-requires
+    (λ c κs. search needs)
+    (λ c κs. search needs)
     returns-4)

@@ -5,59 +5,8 @@ use borrow.Author.Needs.{needs}
 use Rattle.writer.proofs.marking.put_marking.Statement.{statement}
 use Rattle.writer.proofs.marking.put_marking.Tie as tie
 
-both-requires : tie.Need-both-requires
-both-requires c κs = search needs
-
-element-copy-out-flag-of : tie.Need-element-copy-out-flag-of
-element-copy-out-flag-of c = search needs
-
-element-copy-out-flag-of-2 : tie.Need-element-copy-out-flag-of-2
-element-copy-out-flag-of-2 c = search needs
-
-flag-of-requires : tie.Need-flag-of-requires
-flag-of-requires c κs = search needs
-
-element-copy-out-flag-of-3 : tie.Need-element-copy-out-flag-of-3
-element-copy-out-flag-of-3 c = search needs
-
-element-copy-out-flag-of-4 : tie.Need-element-copy-out-flag-of-4
-element-copy-out-flag-of-4 c = search needs
-
-flag-of-requires-2 : tie.Need-flag-of-requires-2
-flag-of-requires-2 c κs = search needs
-
-element-copy-out-flag-of-5 : tie.Need-element-copy-out-flag-of-5
-element-copy-out-flag-of-5 c = search needs
-
-element-copy-out-flag-of-6 : tie.Need-element-copy-out-flag-of-6
-element-copy-out-flag-of-6 c = search needs
-
-flag-of-requires-3 : tie.Need-flag-of-requires-3
-flag-of-requires-3 c κs = search needs
-
-put-flag-if-requires : tie.Need-put-flag-if-requires
-put-flag-if-requires c κs = search needs
-
-put-flag-if-requires-2 : tie.Need-put-flag-if-requires-2
-put-flag-if-requires-2 c κs = search needs
-
-both-requires-2 : tie.Need-both-requires-2
-both-requires-2 c κs = search needs
-
-put-flag-if-requires-3 : tie.Need-put-flag-if-requires-3
-put-flag-if-requires-3 c κs = search needs
-
-element-copy-out-put-operations-if : tie.Need-element-copy-out-put-operations-if
-element-copy-out-put-operations-if c = search needs
-
-marking-kind-requires : tie.Need-marking-kind-requires
-marking-kind-requires c κs = search needs
-
 put-operations-if-requires : tie.Need-put-operations-if-requires
 put-operations-if-requires c κs = c .before .before .before .before .before .before .before .before .before .before .before .before .before .before .before .before .before .before .before .before .before .before .before .before .before .before .before .before .pre
-
-same-length : tie.Need-same-length
-same-length c = search needs
 
 returns : tie.Need-returns
 unfolding decRefPicMarking
@@ -67,22 +16,22 @@ pub put-marking-spec : {M : Type 1} → statement M
 put-marking-spec =
     tie.close
     (tie.spec
-    both-requires
-    element-copy-out-flag-of
-    element-copy-out-flag-of-2
-    flag-of-requires
-    element-copy-out-flag-of-3
-    element-copy-out-flag-of-4
-    flag-of-requires-2
-    element-copy-out-flag-of-5
-    element-copy-out-flag-of-6
-    flag-of-requires-3
-    put-flag-if-requires
-    put-flag-if-requires-2
-    both-requires-2
-    put-flag-if-requires-3
-    element-copy-out-put-operations-if
-    marking-kind-requires
+    (λ c κs. search needs)
+    (λ c. search needs)
+    (λ c. search needs)
+    (λ c κs. search needs)
+    (λ c. search needs)
+    (λ c. search needs)
+    (λ c κs. search needs)
+    (λ c. search needs)
+    (λ c. search needs)
+    (λ c κs. search needs)
+    (λ c κs. search needs)
+    (λ c κs. search needs)
+    (λ c κs. search needs)
+    (λ c κs. search needs)
+    (λ c. search needs)
+    (λ c κs. search needs)
     put-operations-if-requires
-    same-length
+    (λ c. search needs)
     returns)

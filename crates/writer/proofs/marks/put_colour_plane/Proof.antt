@@ -7,12 +7,6 @@ use borrow.Author.Needs.{needs}
 use Rattle.writer.proofs.marks.put_colour_plane.Statement.{statement}
 use Rattle.writer.proofs.marks.put_colour_plane.Tie as tie
 
-put-bits-requires : tie.Need-put-bits-requires
-put-bits-requires c κs = search needs
-
-same-length : tie.Need-same-length
-same-length c = search needs
-
 returns : tie.Need-returns
 returns c = test-to _ _ _ _ _ (ap not (ne-eqb _ _ (c .before .before .before .before .if1 .taken))) (c .before .before .put-bits .ensures)
 
@@ -21,4 +15,4 @@ returns-2 c = leads-nowhere _ _ (test-none _ _ _ _ _ (ap not (eq-eqb _ _ (c .if1
 
 pub put-colour-plane-spec : {M : Type 1} → statement M
 put-colour-plane-spec =
-    tie.close (tie.spec put-bits-requires same-length returns returns-2)
+    tie.close (tie.spec (λ c κs. search needs) (λ c. search needs) returns returns-2)

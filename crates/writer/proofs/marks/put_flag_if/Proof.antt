@@ -4,17 +4,8 @@ use borrow.Author.Needs.{needs}
 use Rattle.writer.proofs.marks.put_flag_if.Statement.{statement}
 use Rattle.writer.proofs.marks.put_flag_if.Tie as tie
 
-fitting-requires : tie.Need-fitting-requires
-fitting-requires c κs = search needs
-
 returns : tie.Need-returns
 returns c = flag-unfit _ _ (c .before .fitting .ensures) (not-true _ (c .if1 .taken))
-
-put-flag-requires : tie.Need-put-flag-requires
-put-flag-requires c κs = search needs
-
-same-length : tie.Need-same-length
-same-length c = search needs
 
 returns-2 : tie.Need-returns-2
 returns-2 c = flag-there _ _ (c .before .before .before .before .before .before .fitting .ensures) (not-false _ (c .before .before .before .before .before .if1 .left)) (c .before .before .before .before .if2 .taken) (c .before .before .put-flag .ensures)
@@ -26,9 +17,9 @@ pub put-flag-if-spec : {M : Type 1} → statement M
 put-flag-if-spec =
     tie.close
     (tie.spec
-    fitting-requires
+    (λ c κs. search needs)
     returns
-    put-flag-requires
-    same-length
+    (λ c κs. search needs)
+    (λ c. search needs)
     returns-2
     returns-3)

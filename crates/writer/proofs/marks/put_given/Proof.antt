@@ -4,12 +4,6 @@ use borrow.Author.Needs.{needs}
 use Rattle.writer.proofs.marks.put_given.Statement.{statement}
 use Rattle.writer.proofs.marks.put_given.Tie as tie
 
-put-number-requires : tie.Need-put-number-requires
-put-number-requires c κs = search needs
-
-same-length : tie.Need-same-length
-same-length c = search needs
-
 returns : tie.Need-returns
 returns c = given-there _ _ _ _ _ (c .before .before .before .before .if1 .taken) (c .before .before .put-number .ensures)
 
@@ -22,4 +16,4 @@ returns-3 c = given-unfit _ _ _ _ _ (c .before .if1 .left) (ne-eqb _ _ (c .if2 .
 pub put-given-spec : {M : Type 1} → statement M
 put-given-spec =
     tie.close
-    (tie.spec put-number-requires same-length returns returns-2 returns-3)
+    (tie.spec (λ c κs. search needs) (λ c. search needs) returns returns-2 returns-3)

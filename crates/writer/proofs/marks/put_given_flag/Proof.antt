@@ -3,12 +3,6 @@ use borrow.Author.Needs.{needs}
 use Rattle.writer.proofs.marks.put_given_flag.Statement.{statement}
 use Rattle.writer.proofs.marks.put_given_flag.Tie as tie
 
-put-flag-requires : tie.Need-put-flag-requires
-put-flag-requires c κs = search needs
-
-same-length : tie.Need-same-length
-same-length c = search needs
-
 returns : tie.Need-returns
 returns c = given-there _ _ _ _ _ (c .before .before .before .before .if1 .taken) (c .before .before .put-flag .ensures)
 
@@ -20,4 +14,4 @@ returns-3 c = given-unfit _ _ _ _ _ (c .before .if1 .left) (c .if2 .left)
 
 pub put-given-flag-spec : {M : Type 1} → statement M
 put-given-flag-spec =
-    tie.close (tie.spec put-flag-requires same-length returns returns-2 returns-3)
+    tie.close (tie.spec (λ c κs. search needs) (λ c. search needs) returns returns-2 returns-3)

@@ -5,17 +5,8 @@ use borrow.Author.Needs.{needs}
 use Rattle.writer.proofs.marks.put_given_signed.Statement.{statement}
 use Rattle.writer.proofs.marks.put_given_signed.Tie as tie
 
-put-signed-requires : tie.Need-put-signed-requires
-put-signed-requires c κs = search needs
-
-same-length : tie.Need-same-length
-same-length c = search needs
-
 returns : tie.Need-returns
 returns c = given-there _ _ _ _ _ (c .before .before .before .before .if1 .taken) (rw (toZ-ofZ (c .before .before .before .before .before .before .fits .v)) at (c .before .before .put-signed .ensures))
-
-is-zero-requires : tie.Need-is-zero-requires
-is-zero-requires c κs = search needs
 
 returns-2 : tie.Need-returns-2
 returns-2 c = given-absent _ _ _ _ _ (c .before .before .if1 .left) (sym (rw (toZ-ofZ (c .before .before .before .before .fits .v)) at (c .before .is-zero .ensures)) ∙ c .if2 .taken)
@@ -27,9 +18,9 @@ pub put-given-signed-spec : {M : Type 1} → statement M
 put-given-signed-spec =
     tie.close
     (tie.spec
-    put-signed-requires
-    same-length
+    (λ c κs. search needs)
+    (λ c. search needs)
     returns
-    is-zero-requires
+    (λ c κs. search needs)
     returns-2
     returns-3)

@@ -6,15 +6,6 @@ use borrow.Author.Needs.{needs}
 use Rattle.writer.proofs.marks.put_offset.Statement.{statement}
 use Rattle.writer.proofs.marks.put_offset.Tie as tie
 
-offset-fits-requires : tie.Need-offset-fits-requires
-offset-fits-requires c κs = search needs
-
-put-signed-requires : tie.Need-put-signed-requires
-put-signed-requires c κs = search needs
-
-same-length : tie.Need-same-length
-same-length c = search needs
-
 returns : tie.Need-returns
 returns c = test-to _ _ _ _ _ (sym (rw (toZ-ofZ (c .before .before .before .before .before .before .before .fits .v)) at (c .before .before .before .before .before .offset-fits .ensures)) ∙ c .before .before .before .before .if1 .taken) (rw (toZ-ofZ (c .before .before .before .before .before .before .before .fits .v)) at (c .before .before .put-signed .ensures))
 
@@ -25,8 +16,8 @@ pub put-offset-spec : {M : Type 1} → statement M
 put-offset-spec =
     tie.close
     (tie.spec
-    offset-fits-requires
-    put-signed-requires
-    same-length
+    (λ c κs. search needs)
+    (λ c κs. search needs)
+    (λ c. search needs)
     returns
     returns-2)

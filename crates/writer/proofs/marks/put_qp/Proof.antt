@@ -6,15 +6,6 @@ use borrow.Author.Needs.{needs}
 use Rattle.writer.proofs.marks.put_qp.Statement.{statement}
 use Rattle.writer.proofs.marks.put_qp.Tie as tie
 
-qp-fits-requires : tie.Need-qp-fits-requires
-qp-fits-requires c κs = search needs
-
-put-signed-requires : tie.Need-put-signed-requires
-put-signed-requires c κs = search needs
-
-same-length : tie.Need-same-length
-same-length c = search needs
-
 returns : tie.Need-returns
 returns c = test-to _ _ _ _ _ (sym (rw (toZ-ofZ (c .before .before .before .before .before .before .before .fits .v)) at (c .before .before .before .before .before .qp-fits .ensures)) ∙ c .before .before .before .before .if1 .taken) (rw (toZ-ofZ (c .before .before .before .before .before .before .before .fits .v)) at (c .before .before .put-signed .ensures))
 
@@ -24,4 +15,4 @@ returns-2 c = leads-nowhere _ _ (test-none _ _ _ _ _ (sym (rw (toZ-ofZ (c .befor
 pub put-qp-spec : {M : Type 1} → statement M
 put-qp-spec =
     tie.close
-    (tie.spec qp-fits-requires put-signed-requires same-length returns returns-2)
+    (tie.spec (λ c κs. search needs) (λ c κs. search needs) (λ c. search needs) returns returns-2)

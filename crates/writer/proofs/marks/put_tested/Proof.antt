@@ -5,12 +5,6 @@ use borrow.Author.Needs.{needs}
 use Rattle.writer.proofs.marks.put_tested.Statement.{statement}
 use Rattle.writer.proofs.marks.put_tested.Tie as tie
 
-put-number-requires : tie.Need-put-number-requires
-put-number-requires c κs = search needs
-
-same-length : tie.Need-same-length
-same-length c = search needs
-
 returns : tie.Need-returns
 returns c = test-to _ _ _ _ _ (le-leb _ _ (c .before .before .before .before .if1 .taken)) (c .before .before .put-number .ensures)
 
@@ -19,4 +13,4 @@ returns-2 c = leads-nowhere _ _ (test-none _ _ _ _ _ (lt-leb _ _ (c .if1 .left))
 
 pub put-tested-spec : {M : Type 1} → statement M
 put-tested-spec =
-    tie.close (tie.spec put-number-requires same-length returns returns-2)
+    tie.close (tie.spec (λ c κs. search needs) (λ c. search needs) returns returns-2)

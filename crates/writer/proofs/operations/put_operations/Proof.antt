@@ -16,9 +16,6 @@ abbrev μ-loop : tie.MeasureT-loop
 loop-holds : tie.Need-loop-holds Inv-loop μ-loop
 loop-holds c = (refl, listing-none _ _ _ _ _ (c .before .pre))
 
-cast-k : tie.Need-cast-k Inv-loop μ-loop
-cast-k c = search needs
-
 mul-k : tie.Need-mul-k Inv-loop μ-loop
 mul-k c = omega (arith, c .before .before .before .pre, c .loop-test .taken)
 
@@ -33,9 +30,6 @@ same-length c = c .before .before .before .before .loop .inv .0
 
 returns : tie.Need-returns Inv-loop μ-loop
 returns c = listing-closes _ _ _ _ _ (c .before .before .before .before .loop .inv .1) (c .before .before .before .loop-test .taken) (c .if1 .taken)
-
-put-tested-requires : tie.Need-put-tested-requires Inv-loop μ-loop
-put-tested-requires c κs = search needs
 
 add-put-operands : tie.Need-add-put-operands Inv-loop μ-loop
 add-put-operands c = omega (arith, c .before .before .before .before .before .before .before .before .before .before .before .pre, c .before .before .before .before .before .before .before .before .loop-test .taken)
@@ -55,9 +49,6 @@ mul-put-operands-2 c = omega (arith, c .before .before .before .before .before .
 element-copy-out-put-operands-2 : tie.Need-element-copy-out-put-operands-2 Inv-loop μ-loop
 element-copy-out-put-operands-2 c = omega (arith, c .before .before .before .before .before .before .before .before .before .before .before .before .pre, c .before .before .before .before .before .before .before .before .before .loop-test .taken)
 
-put-operands-requires : tie.Need-put-operands-requires Inv-loop μ-loop
-put-operands-requires c κs = search needs
-
 add-i : tie.Need-add-i Inv-loop μ-loop
 add-i c = omega (arith, c .before .before .before .before .before .before .before .before .before .before .before .before .before .before .before .before .pre, c .before .before .before .before .before .before .before .before .before .before .before .before .before .loop-test .taken)
 
@@ -66,9 +57,6 @@ loop-less c = omega (arith, c .before .before .before .before .before .before .b
 
 loop-again : tie.Need-loop-again Inv-loop μ-loop
 loop-again c = (c .before .before .put-operands .kept .0 ∙ c .before .before .before .before .before .before .before .before .put-tested .kept .0 ∙ c .before .before .before .before .before .before .before .before .before .before .before .before .before .before .loop .inv .0, listing-next _ _ _ _ _ (c .before .before .before .before .before .before .before .before .before .before .before .before .before .before .loop .inv .1) (c .before .before .before .before .before .before .before .before .before .before .before .before .before .loop-test .taken) (c .before .before .before .before .before .before .before .before .before .before .if1 .left) (c .before .before .before .before .before .before .before .before .put-tested .ensures) (c .before .before .put-operands .ensures))
-
-put-tested-requires-2 : tie.Need-put-tested-requires-2 Inv-loop μ-loop
-put-tested-requires-2 c κs = search needs
 
 same-length-2 : tie.Need-same-length-2 Inv-loop μ-loop
 same-length-2 c = c .before .before .put-tested2 .kept .0 ∙ c .before .before .before .before .before .loop .inv .0
@@ -83,23 +71,23 @@ put-operations-spec =
     Inv-loop
     μ-loop
     loop-holds
-    cast-k
+    (λ c. search needs)
     mul-k
     mul-code
     element-copy-out-code
     same-length
     returns
-    put-tested-requires
+    (λ c κs. search needs)
     add-put-operands
     mul-put-operands
     element-copy-out-put-operands
     add-put-operands-2
     mul-put-operands-2
     element-copy-out-put-operands-2
-    put-operands-requires
+    (λ c κs. search needs)
     add-i
     loop-less
     loop-again
-    put-tested-requires-2
+    (λ c κs. search needs)
     same-length-2
     returns-2)

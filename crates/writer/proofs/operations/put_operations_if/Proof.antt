@@ -7,9 +7,6 @@ use borrow.Author.Needs.{needs}
 use Rattle.writer.proofs.operations.put_operations_if.Statement.{statement}
 use Rattle.writer.proofs.operations.put_operations_if.Tie as tie
 
-put-operations-requires : tie.Need-put-operations-requires
-put-operations-requires c κs = search needs
-
 same-length : tie.Need-same-length
 same-length c = c .before .before .put-operations .kept .0
 
@@ -29,7 +26,7 @@ pub put-operations-if-spec : {M : Type 1} → statement M
 put-operations-if-spec =
     tie.close
     (tie.spec
-    put-operations-requires
+    (λ c κs. search needs)
     same-length
     returns
     returns-2

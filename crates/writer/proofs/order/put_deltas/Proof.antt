@@ -12,27 +12,9 @@ use borrow.Author.Needs.{needs}
 use Rattle.writer.proofs.order.put_deltas.Statement.{statement}
 use Rattle.writer.proofs.order.put_deltas.Tie as tie
 
-fitting-requires : tie.Need-fitting-requires
-fitting-requires c κs = search needs
-
 returns : tie.Need-returns
 unfolding deltas
 returns c = leads-nowhere (deltas (c .before .before .before .before .args .x) (c .before .before .before .before .args .field)) (c .before .before .before .before .args .v) (shaped-none _ _ _ _ _ (unmarked (orderType (c .before .before .before .before .args .x) 1) (c .before .before .before .before .args .v .there) (c .before .fitting .ensures) (not-true _ (c .if1 .taken))))
-
-both-requires : tie.Need-both-requires
-both-requires c κs = search needs
-
-both-requires-2 : tie.Need-both-requires-2
-both-requires-2 c κs = search needs
-
-put-given-signed-requires : tie.Need-put-given-signed-requires
-put-given-signed-requires c κs = search needs
-
-both-requires-3 : tie.Need-both-requires-3
-both-requires-3 c κs = search needs
-
-put-given-signed-requires-2 : tie.Need-put-given-signed-requires-2
-put-given-signed-requires-2 c κs = search needs
 
 same-length : tie.Need-same-length
 same-length c = c .before .before .put-given-signed2 .kept .0 ∙ c .before .before .before .before .before .before .before .before .put-given-signed .kept .0
@@ -48,12 +30,12 @@ pub put-deltas-spec : {M : Type 1} → statement M
 put-deltas-spec =
     tie.close
     (tie.spec
-    fitting-requires
+    (λ c κs. search needs)
     returns
-    both-requires
-    both-requires-2
-    put-given-signed-requires
-    both-requires-3
-    put-given-signed-requires-2
+    (λ c κs. search needs)
+    (λ c κs. search needs)
+    (λ c κs. search needs)
+    (λ c κs. search needs)
+    (λ c κs. search needs)
     same-length
     returns-2)

@@ -2,9 +2,6 @@ use borrow.Author.Needs.{needs}
 use Rattle.writer.proofs.places.place_of.Statement.{statement}
 use Rattle.writer.proofs.places.place_of.Tie as tie
 
-enum-known-a : tie.Need-enum-known-a
-enum-known-a c = search needs
-
 enum-told : tie.Need-enum-told
 enum-told c = search needs
 
@@ -15,4 +12,4 @@ returns-2 : tie.Need-returns-2
 returns-2 c = rw (c .enum-told .given .1)
 
 pub place-of-spec : {M : Type 1} → statement M
-place-of-spec = tie.close (tie.spec enum-known-a enum-told returns returns-2)
+place-of-spec = tie.close (tie.spec (λ c. search needs) enum-told returns returns-2)

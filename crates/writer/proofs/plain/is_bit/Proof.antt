@@ -4,11 +4,8 @@ use Rattle.writer.proofs.PlainLoop.{bit-bits}
 use Rattle.writer.proofs.plain.is_bit.Statement.{statement}
 use Rattle.writer.proofs.plain.is_bit.Tie as tie
 
-either-requires : tie.Need-either-requires
-either-requires c κs = search needs
-
 returns : tie.Need-returns
 returns c = c .either .ensures ∙ bit-bits _ (c .before .fits .v)
 
 pub is-bit-spec : {M : Type 1} → statement M
-is-bit-spec = tie.close (tie.spec either-requires returns)
+is-bit-spec = tie.close (tie.spec (λ c κs. search needs) returns)

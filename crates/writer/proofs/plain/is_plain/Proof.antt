@@ -5,26 +5,14 @@ use borrow.Author.Needs.{needs}
 use Rattle.writer.proofs.plain.is_plain.Statement.{statement}
 use Rattle.writer.proofs.plain.is_plain.Tie as tie
 
-is-plain-numbers-requires : tie.Need-is-plain-numbers-requires
-is-plain-numbers-requires c κs = search needs
-
 returns : tie.Need-returns
 returns c = rw (sym (c .before .is-plain-numbers .ensures) ∙ not-true _ (c .if1 .taken))
-
-element-copy-out-is-plain-weights : tie.Need-element-copy-out-is-plain-weights
-element-copy-out-is-plain-weights c = search needs
 
 is-plain-weights-requires : tie.Need-is-plain-weights-requires
 is-plain-weights-requires c κs = plain-counts _ (sym (c .before .before .is-plain-numbers .ensures) ∙ not-false _ (c .before .if1 .left)) .w0
 
-element-copy-out-is-plain-weights-2 : tie.Need-element-copy-out-is-plain-weights-2
-element-copy-out-is-plain-weights-2 c = search needs
-
 is-plain-weights-requires-2 : tie.Need-is-plain-weights-requires-2
 is-plain-weights-requires-2 c κs = plain-counts _ (sym (c .before .before .before .before .is-plain-numbers .ensures) ∙ not-false _ (c .before .before .before .if1 .left)) .w1
-
-both-requires : tie.Need-both-requires
-both-requires c κs = search needs
 
 returns-2 : tie.Need-returns-2
 returns-2 c = rw (sym (c .before .before .before .before .before .before .is-plain-numbers .ensures) ∙ not-false _ (c .before .before .before .before .before .if1 .left), c .both .ensures, c .before .before .before .is-plain-weights .ensures, c .before .is-plain-weights2 .ensures)
@@ -33,11 +21,11 @@ pub is-plain-spec : {M : Type 1} → statement M
 is-plain-spec =
     tie.close
     (tie.spec
-    is-plain-numbers-requires
+    (λ c κs. search needs)
     returns
-    element-copy-out-is-plain-weights
+    (λ c. search needs)
     is-plain-weights-requires
-    element-copy-out-is-plain-weights-2
+    (λ c. search needs)
     is-plain-weights-requires-2
-    both-requires
+    (λ c κs. search needs)
     returns-2)

@@ -21,9 +21,6 @@ abbrev μ-loop : tie.MeasureT-loop
 loop-holds : tie.Need-loop-holds Inv-loop μ-loop
 loop-holds c = plain-none _ _
 
-cast-k : tie.Need-cast-k Inv-loop μ-loop
-cast-k c = search needs
-
 mul-k : tie.Need-mul-k Inv-loop μ-loop
 mul-k c = omega (arith, c .before .before .pre, c .loop-test .taken)
 
@@ -33,9 +30,6 @@ mul-is-bit c = omega (arith, c .before .before .pre, c .loop-test .taken)
 element-copy-out-is-bit : tie.Need-element-copy-out-is-bit Inv-loop μ-loop
 element-copy-out-is-bit c = omega (arith, c .before .before .pre, c .loop-test .taken)
 
-is-bit-requires : tie.Need-is-bit-requires Inv-loop μ-loop
-is-bit-requires c κs = search needs
-
 add-is-bit : tie.Need-add-is-bit Inv-loop μ-loop
 add-is-bit c = omega (arith, c .before .before .before .before .pre, c .before .before .loop-test .taken)
 
@@ -44,12 +38,6 @@ mul-is-bit-2 c = omega (arith, c .before .before .before .before .pre, c .before
 
 element-copy-out-is-bit-2 : tie.Need-element-copy-out-is-bit-2 Inv-loop μ-loop
 element-copy-out-is-bit-2 c = omega (arith, c .before .before .before .before .pre, c .before .before .loop-test .taken)
-
-is-bit-requires-2 : tie.Need-is-bit-requires-2 Inv-loop μ-loop
-is-bit-requires-2 c κs = search needs
-
-both-requires : tie.Need-both-requires Inv-loop μ-loop
-both-requires c κs = search needs
 
 -- the flags of an entry, tested
 flags : (c : tie.After-both Inv-loop μ-loop) → c .both .result ≡ flagsAt (c .before .before .before .before .before .before .before .args .words .now) (8 * c .before .before .before .before .before .before .loop .i)
@@ -82,16 +70,16 @@ is-plain-weights-spec =
     Inv-loop
     μ-loop
     loop-holds
-    cast-k
+    (λ c. search needs)
     mul-k
     mul-is-bit
     element-copy-out-is-bit
-    is-bit-requires
+    (λ c κs. search needs)
     add-is-bit
     mul-is-bit-2
     element-copy-out-is-bit-2
-    is-bit-requires-2
-    both-requires
+    (λ c κs. search needs)
+    (λ c κs. search needs)
     returns
     add-i
     loop-less

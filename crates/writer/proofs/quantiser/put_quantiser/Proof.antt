@@ -8,30 +8,6 @@ use borrow.Author.Needs.{needs}
 use Rattle.writer.proofs.quantiser.put_quantiser.Statement.{statement}
 use Rattle.writer.proofs.quantiser.put_quantiser.Tie as tie
 
-has-cabac-requires : tie.Need-has-cabac-requires
-has-cabac-requires c κs = search needs
-
-put-number-if-requires : tie.Need-put-number-if-requires
-put-number-if-requires c κs = search needs
-
-put-qp-requires : tie.Need-put-qp-requires
-put-qp-requires c κs = search needs
-
-is-type-requires : tie.Need-is-type-requires
-is-type-requires c κs = search needs
-
-put-flag-if-requires : tie.Need-put-flag-if-requires
-put-flag-if-requires c κs = search needs
-
-is-type-requires-2 : tie.Need-is-type-requires-2
-is-type-requires-2 c κs = search needs
-
-either-requires : tie.Need-either-requires
-either-requires c κs = search needs
-
-put-qs-if-requires : tie.Need-put-qs-if-requires
-put-qs-if-requires c κs = search needs
-
 same-length : tie.Need-same-length
 same-length c = c .before .before .put-qs-if .kept .0 ∙ c .before .before .before .before .before .before .before .before .put-flag-if .kept .0 ∙ c .before .before .before .before .before .before .before .before .before .before .before .before .before .put-qp .kept .0 ∙ c .before .before .before .before .before .before .before .before .before .before .before .before .before .before .before .before .before .before .put-number-if .kept .0
 
@@ -45,13 +21,13 @@ pub put-quantiser-spec : {M : Type 1} → statement M
 put-quantiser-spec =
     tie.close
     (tie.spec
-    has-cabac-requires
-    put-number-if-requires
-    put-qp-requires
-    is-type-requires
-    put-flag-if-requires
-    is-type-requires-2
-    either-requires
-    put-qs-if-requires
+    (λ c κs. search needs)
+    (λ c κs. search needs)
+    (λ c κs. search needs)
+    (λ c κs. search needs)
+    (λ c κs. search needs)
+    (λ c κs. search needs)
+    (λ c κs. search needs)
+    (λ c κs. search needs)
     same-length
     returns)

@@ -13,21 +13,6 @@ fit : (c : tie.Start)
     → SFits w32 (c .args .w .«cb_weight») × (SFits w32 (c .args .w .«cb_offset») × (SFits w32 (c .args .w .«cr_weight») × SFits w32 (c .args .w .«cr_offset»)))
 fit c = (search needs, (search needs, (search needs, search needs)))
 
-put-given-flag-requires : tie.Need-put-given-flag-requires
-put-given-flag-requires c κs = search needs
-
-put-given-signed-requires : tie.Need-put-given-signed-requires
-put-given-signed-requires c κs = search needs
-
-put-given-signed-requires-2 : tie.Need-put-given-signed-requires-2
-put-given-signed-requires-2 c κs = search needs
-
-put-given-signed-requires-3 : tie.Need-put-given-signed-requires-3
-put-given-signed-requires-3 c κs = search needs
-
-put-given-signed-requires-4 : tie.Need-put-given-signed-requires-4
-put-given-signed-requires-4 c κs = search needs
-
 same-length : tie.Need-same-length
 same-length c = c .before .before .put-given-signed4 .kept .0 ∙ c .before .before .before .before .before .before .before .put-given-signed3 .kept .0 ∙ c .before .before .before .before .before .before .before .before .before .before .before .before .put-given-signed2 .kept .0 ∙ c .before .before .before .before .before .before .before .before .before .before .before .before .before .before .before .before .before .put-given-signed .kept .0 ∙ c .before .before .before .before .before .before .before .before .before .before .before .before .before .before .before .before .before .before .before .before .before .before .put-given-flag .kept .0
 
@@ -39,10 +24,10 @@ pub put-chroma-half-spec : {M : Type 1} → statement M
 put-chroma-half-spec =
     tie.close
     (tie.spec
-    put-given-flag-requires
-    put-given-signed-requires
-    put-given-signed-requires-2
-    put-given-signed-requires-3
-    put-given-signed-requires-4
+    (λ c κs. search needs)
+    (λ c κs. search needs)
+    (λ c κs. search needs)
+    (λ c κs. search needs)
+    (λ c κs. search needs)
     same-length
     returns)

@@ -13,18 +13,6 @@ use Rattle.writer.proofs.weight_table.put_weight.Tie as tie
 fit : (c : tie.Start) → SFits w32 (c .args .w .«luma_weight») × SFits w32 (c .args .w .«luma_offset»)
 fit c = (search needs, search needs)
 
-put-flag-requires : tie.Need-put-flag-requires
-put-flag-requires c κs = search needs
-
-put-given-signed-requires : tie.Need-put-given-signed-requires
-put-given-signed-requires c κs = search needs
-
-put-given-signed-requires-2 : tie.Need-put-given-signed-requires-2
-put-given-signed-requires-2 c κs = search needs
-
-put-chroma-half-requires : tie.Need-put-chroma-half-requires
-put-chroma-half-requires c κs = search needs
-
 same-length : tie.Need-same-length
 same-length c = c .before .before .put-chroma-half .kept .0 ∙ c .before .before .before .before .before .before .put-given-signed2 .kept .0 ∙ c .before .before .before .before .before .before .before .before .before .before .before .put-given-signed .kept .0 ∙ c .before .before .before .before .before .before .before .before .before .before .before .before .before .before .before .before .put-flag .kept .0
 
@@ -36,9 +24,9 @@ pub put-weight-spec : {M : Type 1} → statement M
 put-weight-spec =
     tie.close
     (tie.spec
-    put-flag-requires
-    put-given-signed-requires
-    put-given-signed-requires-2
-    put-chroma-half-requires
+    (λ c κs. search needs)
+    (λ c κs. search needs)
+    (λ c κs. search needs)
+    (λ c κs. search needs)
     same-length
     returns)

@@ -22,9 +22,6 @@ loop-holds c = (refl, (c .if1 .left, weighing-none _ _ _ _ _ (c .before .before 
 weight-at-requires : tie.Need-weight-at-requires Inv-loop μ-loop
 weight-at-requires c κs = omega (arith, c .before .before .before .before .pre, c .loop-test .taken)
 
-put-weight-requires : tie.Need-put-weight-requires Inv-loop μ-loop
-put-weight-requires c κs = search needs
-
 add-i : tie.Need-add-i Inv-loop μ-loop
 add-i c = omega (arith, c .before .before .before .before .before .before .before .before .before .pre, c .before .before .before .before .before .loop-test .taken)
 
@@ -49,7 +46,7 @@ put-weight-list-spec =
     returns
     loop-holds
     weight-at-requires
-    put-weight-requires
+    (λ c κs. search needs)
     add-i
     loop-less
     loop-again

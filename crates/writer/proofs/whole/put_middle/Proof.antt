@@ -6,9 +6,6 @@ use borrow.Author.Needs.{needs}
 use Rattle.writer.proofs.whole.put_middle.Statement.{statement}
 use Rattle.writer.proofs.whole.put_middle.Tie as tie
 
-element-copy-out-slice-type : tie.Need-element-copy-out-slice-type
-element-copy-out-slice-type c = search needs
-
 put-modifications-requires : tie.Need-put-modifications-requires
 put-modifications-requires c κs = let k = plain-counts _ (c .before .before .before .pre) in (k .l0, k .l1)
 
@@ -17,15 +14,6 @@ put-pred-weight-table-requires c κs = let k = plain-counts _ (c .before .before
 
 put-marking-requires : tie.Need-put-marking-requires
 put-marking-requires c κs = plain-counts _ (c .before .before .before .before .before .before .before .before .before .before .before .pre) .marking
-
-quantiser-of-requires : tie.Need-quantiser-of-requires
-quantiser-of-requires c κs = search needs
-
-filter-of-requires : tie.Need-filter-of-requires
-filter-of-requires c κs = search needs
-
-put-back-requires : tie.Need-put-back-requires
-put-back-requires c κs = search needs
 
 same-length : tie.Need-same-length
 same-length c = c .before .before .put-back .kept .0 ∙ c .before .before .before .before .before .before .before .before .put-marking .kept .0 ∙ c .before .before .before .before .before .before .before .before .before .before .before .before .put-pred-weight-table .kept .0 ∙ c .before .before .before .before .before .before .before .before .before .before .before .before .before .before .before .before .put-modifications .kept .0
@@ -38,12 +26,12 @@ pub put-middle-spec : {M : Type 1} → statement M
 put-middle-spec =
     tie.close
     (tie.spec
-    element-copy-out-slice-type
+    (λ c. search needs)
     put-modifications-requires
     put-pred-weight-table-requires
     put-marking-requires
-    quantiser-of-requires
-    filter-of-requires
-    put-back-requires
+    (λ c κs. search needs)
+    (λ c κs. search needs)
+    (λ c κs. search needs)
     same-length
     returns)

@@ -25,9 +25,6 @@ add-m c = omega arith
 cast-refuse : tie.Need-cast-refuse Inv-loop μ-loop
 cast-refuse c = omega arith
 
-refuse-requires : tie.Need-refuse-requires Inv-loop μ-loop
-refuse-requires c κs = search needs
-
 returns : tie.Need-returns Inv-loop μ-loop
 unfolding copied
 returns c =
@@ -57,9 +54,6 @@ loop-again c =
     let o = c .before .before .before .before .before .before .args .out .now in
     (omega arith, length-set (c .before .before .loop .out) i (getD d i 0) ∙ v .1, ap (λ (l : List ℕ). set l i (getD d i 0)) (v .2) ∙ copied-one d o i (omega arith) (omega arith))
 
-same-length : tie.Need-same-length Inv-loop μ-loop
-same-length c = search needs
-
 returns-2 : tie.Need-returns-2 Inv-loop μ-loop
 unfolding copied
 returns-2 c =
@@ -74,7 +68,7 @@ copy-out-spec =
     μ-loop
     add-m
     cast-refuse
-    refuse-requires
+    (λ c κs. search needs)
     returns
     loop-holds
     shared-slice-read-out
@@ -82,5 +76,5 @@ copy-out-spec =
     add-i
     loop-less
     loop-again
-    same-length
+    (λ c. search needs)
     returns-2)

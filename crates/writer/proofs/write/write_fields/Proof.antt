@@ -16,20 +16,11 @@ held c =
     let a = c .args in
     record { numbers = a .numbers .now; signed = a .signed .now; l0 = a .l0 .now; l1 = a .l1 .now; marking = a .marking .now; w0 = a .w0 .now; w1 = a .w1 .now }
 
-slice-aggregate-put-header : tie.Need-slice-aggregate-put-header
-slice-aggregate-put-header c = search needs
-
 put-header-requires : tie.Need-put-header-requires
 put-header-requires c κs = c .before .before .pre
 
-slice-aggregate-copy-out : tie.Need-slice-aggregate-copy-out
-slice-aggregate-copy-out c = search needs
-
 copy-out-requires : tie.Need-copy-out-requires
 copy-out-requires c κs = let len = c .before .before .before .before .put-header .kept .0 ∙ length-replicate {A = ℕ} 256 0 in (omega (arith, len, c .before .before .if1 .taken), omega (arith, len))
-
-same-length : tie.Need-same-length
-same-length c = search needs
 
 returns : tie.Need-returns
 returns c =
@@ -40,9 +31,6 @@ returns c =
 write-long-requires : tie.Need-write-long-requires
 write-long-requires c κs = c .before .before .before .before .before .before .pre
 
-same-length-2 : tie.Need-same-length-2
-same-length-2 c = search needs
-
 returns-2 : tie.Need-returns-2
 returns-2 c = c .before .before .write-long .ensures
 
@@ -50,12 +38,12 @@ pub write-fields-spec : {M : Type 1} → statement M
 write-fields-spec =
     tie.close
     (tie.spec
-    slice-aggregate-put-header
+    (λ c. search needs)
     put-header-requires
-    slice-aggregate-copy-out
+    (λ c. search needs)
     copy-out-requires
-    same-length
+    (λ c. search needs)
     returns
     write-long-requires
-    same-length-2
+    (λ c. search needs)
     returns-2)

@@ -13,18 +13,6 @@ held c =
     let a = c .args in
     record { numbers = a .numbers .now; signed = a .signed .now; l0 = a .l0 .now; l1 = a .l1 .now; marking = a .marking .now; w0 = a .w0 .now; w1 = a .w1 .now }
 
-element-copy-out-same : tie.Need-element-copy-out-same
-element-copy-out-same c = search needs
-
-is-plain-requires : tie.Need-is-plain-requires
-is-plain-requires c κs = search needs
-
-both-requires : tie.Need-both-requires
-both-requires c κs = search needs
-
-refuse-requires : tie.Need-refuse-requires
-refuse-requires c κs = search needs
-
 -- what is tested first
 fits : (c : tie.After-both) → c .both .result ≡ fitting (c .before .before .before .before .before .args .x) (held (c .before .before .before .before .before))
 unfolding plain headerFrom
@@ -36,9 +24,6 @@ returns c = rw (c .refuse .ensures, known-other (c .before .before .before .befo
 write-fields-requires : tie.Need-write-fields-requires
 write-fields-requires c κs = (c .before .before .before .before .before .before .before .pre, fitting-numbers (c .before .before .before .before .before .before .before .args .x) (held (c .before .before .before .before .before .before .before)) (sym (fits (c .before .before)) ∙ not-false _ (c .before .if1 .left)))
 
-same-length : tie.Need-same-length
-same-length c = search needs
-
 returns-2 : tie.Need-returns-2
 returns-2 c = rw (known-fields (c .before .before .before .before .before .before .before .before .before .before .args .x) (held (c .before .before .before .before .before .before .before .before .before .before)) (c .before .before .before .before .before .before .before .before .before .before .args .out .now) (sym (fits (c .before .before .before .before .before)) ∙ not-false _ (c .before .before .before .before .if1 .left))) (c .before .before .write-fields .ensures)
 
@@ -46,11 +31,11 @@ pub write-known-spec : {M : Type 1} → statement M
 write-known-spec =
     tie.close
     (tie.spec
-    element-copy-out-same
-    is-plain-requires
-    both-requires
-    refuse-requires
+    (λ c. search needs)
+    (λ c κs. search needs)
+    (λ c κs. search needs)
+    (λ c κs. search needs)
     returns
     write-fields-requires
-    same-length
+    (λ c. search needs)
     returns-2)

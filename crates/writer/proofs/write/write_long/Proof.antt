@@ -16,14 +16,8 @@ held c =
     let a = c .args in
     record { numbers = a .numbers .now; signed = a .signed .now; l0 = a .l0 .now; l1 = a .l1 .now; marking = a .marking .now; w0 = a .w0 .now; w1 = a .w1 .now }
 
-slice-aggregate-put-header : tie.Need-slice-aggregate-put-header
-slice-aggregate-put-header c = search needs
-
 put-header-requires : tie.Need-put-header-requires
 put-header-requires c κs = c .before .before .pre
-
-slice-aggregate-copy-out : tie.Need-slice-aggregate-copy-out
-slice-aggregate-copy-out c = search needs
 
 copy-out-requires : tie.Need-copy-out-requires
 copy-out-requires c κs =
@@ -31,17 +25,11 @@ copy-out-requires c κs =
     let most = fields-most (c .before .before .before .before .before .before .before .args .x) (headerFrom (held (c .before .before .before .before .before .before .before))) (replicate 6144 0) (c .before .before .before .before .put-header .result) (c .before .before .if1 .taken) (c .before .before .before .before .put-header .ensures) in
     (omega (arith, len, most), omega (arith, len))
 
-same-length : tie.Need-same-length
-same-length c = search needs
-
 returns : tie.Need-returns
 returns c =
     let len = length-replicate {A = ℕ} 6144 0 in
     let most = fields-most (c .before .before .before .before .before .before .before .before .before .before .args .x) (headerFrom (held (c .before .before .before .before .before .before .before .before .before .before))) (replicate 6144 0) (c .before .before .before .before .before .before .before .put-header .result) (c .before .before .before .before .before .if1 .taken) (c .before .before .before .before .before .before .before .put-header .ensures) in
     rw (← fields-done (c .before .before .before .before .before .before .before .before .before .before .args .x) (headerFrom (held (c .before .before .before .before .before .before .before .before .before .before))) (replicate 6144 0) (c .before .before .before .before .before .before .before .put-header .result) (c .before .before .before .before .before .if1 .taken) (c .before .before .before .before .before .before .before .put-header .ensures) (c .before .before .before .before .before .before .before .before .before .before .args .out .now) (omega (arith, len, most))) (c .before .before .copy-out .ensures)
-
-refuse-requires : tie.Need-refuse-requires
-refuse-requires c κs = search needs
 
 returns-2 : tie.Need-returns-2
 returns-2 c = rw (c .refuse .ensures, fields-nowhere (c .before .before .before .before .before .before .args .x) (headerFrom (held (c .before .before .before .before .before .before))) (replicate 6144 0) (c .before .before .before .before .before .before .args .out .now) (length-replicate {A = ℕ} 6144 0) (c .before .before .before .put-header .result) (c .before .if1 .left) (c .before .before .before .put-header .ensures)) (refl, refl)
@@ -50,11 +38,11 @@ pub write-long-spec : {M : Type 1} → statement M
 write-long-spec =
     tie.close
     (tie.spec
-    slice-aggregate-put-header
+    (λ c. search needs)
     put-header-requires
-    slice-aggregate-copy-out
+    (λ c. search needs)
     copy-out-requires
-    same-length
+    (λ c. search needs)
     returns
-    refuse-requires
+    (λ c κs. search needs)
     returns-2)

@@ -15,36 +15,12 @@ held c =
     let a = c .args in
     record { numbers = a .numbers .now; signed = a .signed .now; l0 = a .l0 .now; l1 = a .l1 .now; marking = a .marking .now; w0 = a .w0 .now; w1 = a .w1 .now }
 
-kind-given-requires : tie.Need-kind-given-requires
-kind-given-requires c κs = search needs
-
-enum-known-a1 : tie.Need-enum-known-a1
-enum-known-a1 c = search needs
-
 enum-told : tie.Need-enum-told
 enum-told c = search needs
-
-why-kind-requires : tie.Need-why-kind-requires
-why-kind-requires c κs = search needs
 
 returns : tie.Need-returns
 unfolding writeWords writeWhere
 returns c = rw (c .why-kind .ensures, ← c .before .before .before .kind-given .ensures, c .before .enum-told .given .1) (refl, refl)
-
-element-copy-out-sets-for : tie.Need-element-copy-out-sets-for
-element-copy-out-sets-for c = search needs
-
-sets-for-requires : tie.Need-sets-for-requires
-sets-for-requires c κs = search needs
-
-enum-known-a2 : tie.Need-enum-known-a2
-enum-known-a2 c = search needs
-
-enum-told-2 : tie.Need-enum-told-2
-enum-told-2 c = search needs
-
-why-sets-requires : tie.Need-why-sets-requires
-why-sets-requires c κs = search needs
 
 returns-2 : tie.Need-returns-2
 unfolding writeWords writeWhere headerFrom
@@ -55,9 +31,6 @@ write-known-requires c κs =
     let a = c .before .before .before .before .before .before .before .before .before .before .before .args in
     let f = known-few (tableOf (a .sequences .now) (a .pictures .now)) (getD (a .numbers .now) 2 0) _ _ _ (sym (c .before .before .before .before .sets-for .ensures) ∙ c .before .before .a2 .given .1) in
     (f .l0, f .l1)
-
-same-length : tie.Need-same-length
-same-length c = search needs
 
 returns-3 : tie.Need-returns-3
 unfolding writeWords writeWhere headerFrom
@@ -70,17 +43,17 @@ pub write-words-in-spec : {M : Type 1} → statement M
 write-words-in-spec =
     tie.close
     (tie.spec
-    kind-given-requires
-    enum-known-a1
+    (λ c κs. search needs)
+    (λ c. search needs)
     enum-told
-    why-kind-requires
+    (λ c κs. search needs)
     returns
-    element-copy-out-sets-for
-    sets-for-requires
-    enum-known-a2
-    enum-told-2
-    why-sets-requires
+    (λ c. search needs)
+    (λ c κs. search needs)
+    (λ c. search needs)
+    (λ c. search needs)
+    (λ c κs. search needs)
     returns-2
     write-known-requires
-    same-length
+    (λ c. search needs)
     returns-3)

@@ -5,9 +5,6 @@ use borrow.Author.Needs.{needs}
 use Rattle.bits.proofs.read.Cursor.flag.Statement.{statement}
 use Rattle.bits.proofs.read.Cursor.flag.Tie as tie
 
-within-requires : tie.Need-within-requires
-within-requires c κs = search needs
-
 flag-at-requires : tie.Need-flag-at-requires
 flag-at-requires c κs = reached-le _ (c .before .before .args .s .now) (c .within .ensures)
 
@@ -16,4 +13,4 @@ unfolding bitsOf
 returns c = c .flag-at .ensures ∙ rw (c .before .within .ensures)
 
 pub flag-spec : {M : Type 1} → statement M
-flag-spec = tie.close (tie.spec within-requires flag-at-requires returns)
+flag-spec = tie.close (tie.spec (λ c κs. search needs) flag-at-requires returns)

@@ -7,17 +7,8 @@ use borrow.Author.Needs.{needs}
 use Rattle.bits.proofs.read.Cursor.se.Statement.{statement}
 use Rattle.bits.proofs.read.Cursor.se.Tie as tie
 
-ue-requires : tie.Need-ue-requires
-ue-requires c κs = search needs
-
-enum-known-k : tie.Need-enum-known-k
-enum-known-k c = search needs
-
 signed-requires : tie.Need-signed-requires
 signed-requires c κs = ue-lt _ _ _ _ (sym (c .before .before .before .ue .ensures) ∙ ap asRead (c .before .k .given .1))
-
-enum-known-r : tie.Need-enum-known-r
-enum-known-r c = search needs
 
 returns : tie.Need-returns
 returns c = rw (toZ-ofZ {w = w32} {z = c .signed .result} (record { sfits = c .signed .ok }), c .signed .ensures, ← c .before .before .before .before .ue .ensures, c .before .before .k .given .1)
@@ -27,4 +18,4 @@ returns-2 c = rw (← c .before .before .before .ue .ensures, c .before .r .give
 
 pub se-spec : {M : Type 1} → statement M
 se-spec =
-    tie.close (tie.spec ue-requires enum-known-k signed-requires enum-known-r returns returns-2)
+    tie.close (tie.spec (λ c κs. search needs) (λ c. search needs) signed-requires (λ c. search needs) returns returns-2)

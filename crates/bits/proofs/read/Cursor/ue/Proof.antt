@@ -5,9 +5,6 @@ use borrow.Author.Needs.{needs}
 use Rattle.bits.proofs.read.Cursor.ue.Statement.{statement}
 use Rattle.bits.proofs.read.Cursor.ue.Tie as tie
 
-within-requires : tie.Need-within-requires
-within-requires c κs = search needs
-
 code-at-requires : tie.Need-code-at-requires
 code-at-requires c κs = reached-le _ (c .before .before .args .s .now) (c .within .ensures)
 
@@ -16,4 +13,4 @@ unfolding bitsOf
 returns c = c .code-at .ensures ∙ rw (c .before .within .ensures)
 
 pub ue-spec : {M : Type 1} → statement M
-ue-spec = tie.close (tie.spec within-requires code-at-requires returns)
+ue-spec = tie.close (tie.spec (λ c κs. search needs) code-at-requires returns)

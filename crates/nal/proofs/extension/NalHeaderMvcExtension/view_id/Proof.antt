@@ -6,21 +6,9 @@ use Rattle.nal.proofs.ThreeBytes.{three-field}
 use Rattle.nal.proofs.extension.NalHeaderMvcExtension.view_id.Statement.{statement}
 use Rattle.nal.proofs.extension.NalHeaderMvcExtension.view_id.Tie as tie
 
-cast-result : tie.Need-cast-result
-cast-result c = search needs
-
-mul-result : tie.Need-mul-result
-mul-result c = search needs
-
-cast-result-2 : tie.Need-cast-result-2
-cast-result-2 c = search needs
-
-add-result : tie.Need-add-result
-add-result c = search needs
-
 returns : tie.Need-returns
 unfolding viewId mvcBits
 returns c = let e = c .before .before .args .self in omega (arith, three-field (e .b1) (e .b2) (e .b3) (omega arith) (omega arith) 8 10 (lit≤ tt))
 
 pub view-id-spec : {M : Type 1} → statement M
-view-id-spec = tie.close (tie.spec cast-result mul-result cast-result-2 add-result returns)
+view-id-spec = tie.close (tie.spec (λ c. search needs) (λ c. search needs) (λ c. search needs) (λ c. search needs) returns)

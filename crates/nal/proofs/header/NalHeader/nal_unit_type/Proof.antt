@@ -4,11 +4,8 @@ use Rattle.nal.proofs.FirstByte.{unit-type}
 use Rattle.nal.proofs.header.NalHeader.nal_unit_type.Statement.{statement}
 use Rattle.nal.proofs.header.NalHeader.nal_unit_type.Tie as tie
 
-of-low-bits-requires : tie.Need-of-low-bits-requires
-of-low-bits-requires c κs = search needs
-
 returns : tie.Need-returns
 returns c = c .of-low-bits .ensures ∙ sym (unit-type (c .before .args .self))
 
 pub nal-unit-type-spec : {M : Type 1} → statement M
-nal-unit-type-spec = tie.close (tie.spec of-low-bits-requires returns)
+nal-unit-type-spec = tie.close (tie.spec (λ c κs. search needs) returns)

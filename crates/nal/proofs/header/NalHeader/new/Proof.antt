@@ -5,9 +5,6 @@ use Rattle.nal.proofs.FirstByte.{top-set, top-clear}
 use Rattle.nal.proofs.header.NalHeader.new.Statement.{statement}
 use Rattle.nal.proofs.header.NalHeader.new.Tie as tie
 
-refuse-requires : tie.Need-refuse-requires
-refuse-requires c κs = search needs
-
 returns : tie.Need-returns
 returns c = rw (c .refuse .ensures) (sym (top-set (c .before .before .args .header-value) (omega arith) (omega arith)))
 
@@ -15,4 +12,4 @@ returns-2 : tie.Need-returns-2
 returns-2 c = sym (top-clear (c .before .args .header-value) (omega arith))
 
 pub new-spec : {M : Type 1} → statement M
-new-spec = tie.close (tie.spec refuse-requires returns returns-2)
+new-spec = tie.close (tie.spec (λ c κs. search needs) returns returns-2)

@@ -10,11 +10,8 @@ use Rattle.nal.proofs.unit_type.UnitType.for_id.Tie as tie
 returns : tie.Need-returns
 returns c = sym (for-id-out (c .before .args .id) (omega arith))
 
-of-low-bits-requires : tie.Need-of-low-bits-requires
-of-low-bits-requires c κs = search needs
-
 returns-2 : tie.Need-returns-2
 returns-2 c = let h : c .before .before .args .id < 32 = omega arith in rw (c .of-low-bits .ensures, mod-eq-of-lt h) (sym (for-id-in (c .before .before .args .id) h))
 
 pub for-id-spec : {M : Type 1} → statement M
-for-id-spec = tie.close (tie.spec returns of-low-bits-requires returns-2)
+for-id-spec = tie.close (tie.spec returns (λ c κs. search needs) returns-2)
