@@ -1,5 +1,5 @@
 // A body's bits: reading and writing fixed-width fields and the codes ue(v) and se(v) of H.264, 9.1, at a bit place. Everything else stands on this crate.
-pub mod refusals; // the rules' numbers, and the one place where a refusal is made
+pub mod refusals; // the rules' numbers, and the two places where a refusal is made
 pub mod read; // reads at a cursor
 pub mod put; // writes at a cursor
 pub mod width; // how wide slice_group_change_cycle is

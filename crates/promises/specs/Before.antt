@@ -21,7 +21,7 @@ readBefore t n s = bind (headerBefore t n .read s 0) (λ h e. pick (anySet (drop
 
 abbrev pub begunBefore : Table → List ℕ → List ℕ → Begun → UnitOut
 begunBefore t u scratch (Begun.Slice kind from) = inBody (λ s. sliceAnswer (readBefore t kind s)) u from scratch
-begunBefore t u scratch (Begun.«Prefix» there) = inBody (prefixBits there) u 4 scratch
+begunBefore t u scratch (Begun.«Prefix» kind) = inBody (prefixBits kind) u 4 scratch
 begunBefore t u scratch (Begun.Other id) = untouched (UnitAnswer.Other id) scratch
 begunBefore t u scratch (Begun.Refused r) = untouched (UnitAnswer.Refused r) scratch
 
