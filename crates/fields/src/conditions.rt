@@ -1,5 +1,6 @@
 // The conditions of 7.3.3 that are no single test of a field: a stage of the header calls these, and so has no branches.
 use syntax::context::Context;
+pub use table::sets::both;
 ghost use mathlib.Core.Bool.{_&&_, _||_};
 ghost use mathlib.Core.Path.{_≡_};
 ghost use Prim.Native.Nat.{_%_};
@@ -16,12 +17,6 @@ pub const I: u32 = 2;
 pub const SP: u32 = 3;
 
 pub const SI: u32 = 4;
-
-pub fn both(a: bool, b: bool) -> bool
-    ensures { λ r. ⌜ r ≡ a && b ⌝ }
-{
-    if a { b } else { false }
-}
 
 pub fn either(a: bool, b: bool) -> bool
     ensures { λ r. ⌜ r ≡ a || b ⌝ }

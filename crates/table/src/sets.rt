@@ -35,7 +35,7 @@ pub struct Picture {
 }
 
 // Both hold. The tests of a set are one condition, so that a look-up has one branch for them.
-pub(crate) fn both(a: bool, b: bool) -> bool
+pub fn both(a: bool, b: bool) -> bool
     ensures { λ r. ⌜ r ≡ a && b ⌝ }
 {
     if a { b } else { false }
