@@ -3,7 +3,6 @@ use crate::flag::absent_flag;
 use crate::flag::marked_flag;
 use crate::number::absent;
 use crate::number::marked;
-use crate::quant::between;
 use crate::signed::absent_signed;
 use crate::signed::code;
 use crate::signed::marked_signed;
@@ -20,6 +19,7 @@ use bits::refusals::COLOUR_PLANE;
 use bits::refusals::SCALABLE;
 use bits::refusals::refuse_at;
 use syntax::context::Context;
+use table::sets::within_signed;
 ghost use mathlib.Core.Bool.{false, not};
 ghost use mathlib.Core.Path.{_≡_};
 ghost use Prim.Native.Nat.{_+_};
@@ -178,7 +178,7 @@ pub fn given_signed(s: &[u8], c: Cursor, there: bool) -> SignedGiven
 pub fn offset_fits(d: i32) -> bool
     ensures { λ r. ⌜ r ≡ offsetFits d ⌝ }
 {
-    between(-6, 6, d as i64)
+    within_signed(-6, 6, d as i64)
 }
 
 fn offset(s: &[u8], c: Cursor, number: u8) -> SignedGiven
