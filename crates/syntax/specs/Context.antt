@@ -120,6 +120,10 @@ module _ (x : Context) where
   abbrev pub orderType : ℕ → Bool
   orderType n = eqb (s .«pic_order_cnt_type») n
 
+  -- cabac_init_idc is there
+  abbrev pub hasCabac : ℕ → Bool
+  hasCabac k = p .«entropy_coding_mode_flag» && (not (isI k) && not (isSI k))
+
   -- pred_weight_table( ) is there
   abbrev pub isWeighted : ℕ → Bool
   isWeighted k = (p .«weighted_pred_flag» && (isP k || isSP k)) || (eqb (p .«weighted_bipred_idc») 1 && isB k)
