@@ -12,17 +12,17 @@ use syntax::context::Context;
 use table::sets::within_signed;
 ghost use mathlib.Core.Path.{_≡_};
 ghost use Prim.Native.Nat.{_*_};
-ghost use lib.IntN.{pos, _+ℤ_, negℤ};
+ghost use lib.IntN.{pos, negℤ};
 ghost use Rattle.bits.specs.Bits.{bitsOf};
 ghost use Rattle.fmt.specs.Fmt.{test};
 ghost use Rattle.fmt.specs.Leaves.{se};
-ghost use Rattle.syntax.specs.Context.{qpFits, qsFits};
+ghost use Rattle.syntax.specs.Context.{level, qpFits, qsFits};
 ghost use Rattle.syntax.specs.Marks.{signedIf};
 ghost use Rattle.fields.specs.Steps.{asSigned, asGiven};
 
-// 26 + init + d
-fn level(init: i32, d: i32) -> i64
-    ensures { λ r. ⌜ r ≡ pos 26 +ℤ init +ℤ d ⌝ }
+// QP or QS: 26 + init + d
+pub fn level(init: i32, d: i32) -> i64
+    ensures { λ r. ⌜ r ≡ level init d ⌝ }
 {
     26 + init as i64 + d as i64
 }
