@@ -9,10 +9,9 @@ use Rattle.nal.specs.declared.header.NalHeader.{NalHeader}
 use Rattle.nal.specs.declared.header.NalHeaderRead.{NalHeaderRead}
 use Rattle.nal.specs.declared.extension.NalHeaderSvcExtension.{NalHeaderSvcExtension}
 use Rattle.nal.specs.declared.extension.NalHeaderMvcExtension.{NalHeaderMvcExtension}
-use Rattle.nal.specs.declared.extension.NalHeaderExtension.{NalHeaderExtension}
 use Rattle.nal.specs.UnitType.{idOf}
 use Rattle.nal.specs.Header.{nalRefIdc, nalUnitType}
-use Rattle.nal.specs.Extension.{extensionFrom}
+use Rattle.nal.specs.Extension.{extensionFrom, isSvc}
 use Rattle.nal.specs.Extension.{nonIdrFlag, mvcPriorityId, viewId, mvcTemporalId, anchorPicFlag, interViewFlag}
 use Rattle.nal.specs.Extension.{idrFlag, svcPriorityId, noInterLayerPredFlag, dependencyId, qualityId, svcTemporalId, useRefBasePicFlag, discardableFlag, outputFlag}
 use Rattle.unit.specs.Begin.{typeIn, hasExtension}
@@ -55,10 +54,6 @@ kindOf (UnitType.Reserved id) = 3
 abbrev pub kindFor : UnitTypeForId → ℕ
 kindFor (UnitTypeForId.«Type» t) = kindOf t
 kindFor (UnitTypeForId.ValueOutOfRange id) = 0
-
-abbrev pub isSvc : NalHeaderExtension → Bool
-isSvc (NalHeaderExtension.Svc e) = true
-isSvc (NalHeaderExtension.Mvc e) = false
 
 unfoldable pub svcOut : NalHeaderSvcExtension → SvcExtensionOut
 svcOut e =

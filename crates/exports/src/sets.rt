@@ -11,7 +11,8 @@ use table::words::put_sequence_in;
 use table::words::sequence_in;
 ghost use mathlib.Core.Path.{_≡_};
 ghost use Rattle.table.specs.Tables.{sequenceIn, sequenceAt, pictureIn, pictureAt, sequencePut, widthsAfter, picturePut, putSequence, putPicture};
-ghost use Rattle.exports.specs.Sets.{noSequence, sequenceOut, noPicture, pictureOut, changedOut};
+ghost use Rattle.syntax.specs.Context.{noPicture, noSequence};
+ghost use Rattle.exports.specs.Sets.{sequenceOut, pictureOut, changedOut};
 
 // A sequence set, or none: then `there` is false and every field zero.
 #[repr(C)]

@@ -10,7 +10,7 @@ use unit::begin::has_extension;
 ghost use mathlib.Core.Path.{_≡_};
 ghost use Rattle.nal.specs.UnitType.{forId};
 ghost use Rattle.nal.specs.Header.{headerFrom};
-ghost use Rattle.exports.specs.Starts.{headerOut, kindOf, kindFor, isSvc, svcOut, mvcOut, extensionOut};
+ghost use Rattle.exports.specs.Starts.{headerOut, kindOf, kindFor, svcOut, mvcOut, extensionOut};
 
 // A first byte. Beside a refusal the other fields are zero.
 #[repr(C)]
@@ -141,15 +141,6 @@ fn mvc_out(e: NalHeaderMvcExtension) -> MvcExtensionOut
     }
 }
 
-fn is_svc(e: NalHeaderExtension) -> bool
-    ensures { λ r. ⌜ r ≡ isSvc e ⌝ }
-{
-    match e {
-        NalHeaderExtension::Svc(_) => true,
-        NalHeaderExtension::Mvc(_) => false,
-    }
-}
-
 // The three bytes of an extension.
 #[no_mangle]
 pub extern "C" fn tuz_extension(b1: u8, b2: u8, b3: u8) -> ExtensionOut
@@ -158,7 +149,7 @@ pub extern "C" fn tuz_extension(b1: u8, b2: u8, b3: u8) -> ExtensionOut
     let svc = svc_out(NalHeaderSvcExtension { b1, b2, b3 });
     let mvc = mvc_out(NalHeaderMvcExtension { b1, b2, b3 });
     ExtensionOut {
-        is_svc: is_svc(NalHeaderExtension::from_bytes(b1, b2, b3)),
+        is_svc: NalHeaderExtension::from_bytes(b1, b2, b3).is_svc(),
         svc,
         mvc,
     }

@@ -113,8 +113,9 @@ same-width : (m n : ℕ) → widthOf m ≡ widthOf n → u m ≡ u n
 unfolding u
 same-width m n e = ap (λ (w : ℕ). record { read = fixedAt w; bits = digits w; good = λ v. ltb v (2 ^ w) }) e
 
-counts-as-32 : (n : ℕ) → 32 ≤ n → widthOf n ≡ 32
+pub counts-as-32 : (n : ℕ) → 32 ≤ n → widthOf n ≡ 32
 counts-as-32 n h = cases (leb n 32) (λ t. rw t (omega (arith, leb-true n 32 t))) (λ t. rw t)
 
-pub wide-same : (m n : ℕ) → 32 ≤ m → 32 ≤ n → u m ≡ u n
-wide-same m n h k = same-width m n (counts-as-32 m h ∙ sym (counts-as-32 n k))
+-- a width that is what another counts as
+pub as-width : (m n : ℕ) → m ≡ widthOf n → u m ≡ u n
+as-width m n e = rw e (same-width (widthOf n) n (cases (leb n 32) (λ t. rw (t, t)) (λ t. rw t)))

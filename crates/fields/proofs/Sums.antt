@@ -5,21 +5,11 @@ use native.Mathlib.Omega.{arith}
 use lib.Dec.{ltb, lit<}
 use lib.IntN.{ℤ, pos, negsuc, _+ℤ_, _-ℤ_, _*ℤ_, negℤ, subℕ, +ℤ-idl}
 use lib.Signed.{mag}
-use mir.Syntax.{Width, w32, w64}
-use mir.Val.{SFits, toZ, ofZ}
-use mir.Facts.{toZ-ofZ, toZ-pos, sfits-widen}
+use mir.Syntax.{w32, w64}
+use mir.Val.{SFits, toZ}
+use mir.Facts.{toZ-ofZ, toZ-pos}
 use Rattle.bits.proofs.Results.{cases}
-
--- a signed number as the machine hands it on
-abbrev pub held : Width → ℤ → ℤ
-held w z = toZ w (ofZ w z)
-
--- a number of 32 bits, cast to 64
-pub wide-fits : {z : ℤ} → SFits w32 z → SFits w64 (held w32 z)
-wide-fits f = rw (toZ-ofZ f) (sfits-widen {w = w32} tt f)
-
-pub wide-is : {z : ℤ} → SFits w32 z → held w64 (held w32 z) ≡ z
-wide-is f = toZ-ofZ (wide-fits f) ∙ toZ-ofZ f
+use Rattle.table.proofs.Signs.{held, wide-is}
 
 -- how far from zero a difference and a sum can be
 

@@ -1,10 +1,11 @@
 // The conditions of 7.3.3 that are no single test of a field: a stage of the header calls these, and so has no branches.
 use syntax::context::Context;
+pub use table::sets::both;
 ghost use mathlib.Core.Bool.{_&&_, _||_};
 ghost use mathlib.Core.Path.{_≡_};
 ghost use Prim.Native.Nat.{_%_};
 ghost use lib.Dec.{eqb};
-ghost use Rattle.syntax.specs.Context.{hasL0, hasChroma, isWeighted};
+ghost use Rattle.syntax.specs.Context.{hasL0, hasChroma, hasCabac, isWeighted};
 
 // slice_type modulo 5 (table 7-6)
 pub const P: u32 = 0;
@@ -16,12 +17,6 @@ pub const I: u32 = 2;
 pub const SP: u32 = 3;
 
 pub const SI: u32 = 4;
-
-pub fn both(a: bool, b: bool) -> bool
-    ensures { λ r. ⌜ r ≡ a && b ⌝ }
-{
-    if a { b } else { false }
-}
 
 pub fn either(a: bool, b: bool) -> bool
     ensures { λ r. ⌜ r ≡ a || b ⌝ }
@@ -50,6 +45,16 @@ pub fn has_chroma(x: Context) -> bool
     both(
         !x.sequence.separate_colour_plane_flag,
         x.sequence.chroma_format_idc != 0,
+    )
+}
+
+// cabac_init_idc is there.
+pub fn has_cabac(x: Context, k: u32) -> bool
+    ensures { λ r. ⌜ r ≡ hasCabac x k ⌝ }
+{
+    both(
+        x.picture.entropy_coding_mode_flag,
+        both(!is_type(k, I), !is_type(k, SI)),
     )
 }
 

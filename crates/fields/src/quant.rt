@@ -9,26 +9,20 @@ use bits::refusals::QP_RANGE;
 use bits::refusals::QS_RANGE;
 use bits::refusals::refuse_at;
 use syntax::context::Context;
+use table::sets::within_signed;
 ghost use mathlib.Core.Path.{_≡_};
 ghost use Prim.Native.Nat.{_*_};
-ghost use lib.IntN.{pos, _+ℤ_, negℤ};
+ghost use lib.IntN.{pos, negℤ};
 ghost use Rattle.bits.specs.Bits.{bitsOf};
 ghost use Rattle.fmt.specs.Fmt.{test};
 ghost use Rattle.fmt.specs.Leaves.{se};
-ghost use Rattle.table.specs.Sets.{betweenZ};
-ghost use Rattle.syntax.specs.Context.{qpFits, qsFits};
+ghost use Rattle.syntax.specs.Context.{level, qpFits, qsFits};
 ghost use Rattle.syntax.specs.Marks.{signedIf};
 ghost use Rattle.fields.specs.Steps.{asSigned, asGiven};
 
-pub(crate) fn between(low: i64, high: i64, z: i64) -> bool
-    ensures { λ r. ⌜ r ≡ betweenZ low high z ⌝ }
-{
-    if low <= z { z <= high } else { false }
-}
-
-// 26 + init + d
-fn level(init: i32, d: i32) -> i64
-    ensures { λ r. ⌜ r ≡ pos 26 +ℤ init +ℤ d ⌝ }
+// QP or QS: 26 + init + d
+pub fn level(init: i32, d: i32) -> i64
+    ensures { λ r. ⌜ r ≡ level init d ⌝ }
 {
     26 + init as i64 + d as i64
 }
@@ -46,7 +40,7 @@ pub fn qp_fits(x: Context, d: i32) -> bool
 {
     let low = lowest(x.sequence.bit_depth_luma_minus8);
     let p = x.picture;
-    between(low, 51, level(p.pic_init_qp_minus26, d))
+    within_signed(low, 51, level(p.pic_init_qp_minus26, d))
 }
 
 // Whether slice_qs_delta puts QS in range.
@@ -54,7 +48,7 @@ pub fn qs_fits(x: Context, d: i32) -> bool
     ensures { λ r. ⌜ r ≡ qsFits x d ⌝ }
 {
     let p = x.picture;
-    between(0, 51, level(p.pic_init_qs_minus26, d))
+    within_signed(0, 51, level(p.pic_init_qs_minus26, d))
 }
 
 // slice_qp_delta

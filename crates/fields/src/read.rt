@@ -3,7 +3,6 @@ use crate::flag::absent_flag;
 use crate::flag::marked_flag;
 use crate::number::absent;
 use crate::number::marked;
-use crate::quant::between;
 use crate::signed::absent_signed;
 use crate::signed::code;
 use crate::signed::marked_signed;
@@ -20,6 +19,7 @@ use bits::refusals::COLOUR_PLANE;
 use bits::refusals::SCALABLE;
 use bits::refusals::refuse_at;
 use syntax::context::Context;
+use table::sets::within_signed;
 ghost use mathlib.Core.Bool.{false, not};
 ghost use mathlib.Core.Path.{_≡_};
 ghost use Prim.Native.Nat.{_+_};
@@ -28,6 +28,7 @@ ghost use lib.IntN.{pos};
 ghost use Rattle.bits.specs.Answers as bits;
 ghost use Rattle.bits.specs.Answers.{asRead};
 ghost use Rattle.bits.specs.Bits.{Bits, bitsOf};
+ghost use Rattle.bits.specs.Codes.{widthOf};
 ghost use Rattle.fmt.specs.Fmt.{test};
 ghost use Rattle.fmt.specs.Leaves.{flag, u, ue, se};
 ghost use Rattle.syntax.specs.Marks.{isZero, isZeroZ, numberIf, signedIf, flagIf, given};
@@ -80,11 +81,11 @@ pub fn bits_if(s: &[u8], c: Cursor, there: bool, n: u32) -> NumberStep
     }
 }
 
-// A width that counts as n + 4, which may not fit: over 32 all widths count as 32.
-fn four_more(n: u32) -> u32
-    ensures { λ r. ⌜ u r ≡ u (n + 4) ⌝ }
+// The width that n + 4 counts as: itself, which may not fit, up to 32.
+pub fn four_more(n: u32) -> u32
+    ensures { λ r. ⌜ r ≡ widthOf (n + 4) ⌝ }
 {
-    if n < 32 { n + 4 } else { n }
+    if n < 28 { n + 4 } else { 32 }
 }
 
 // u(n + 4): pic_order_cnt_lsb.
@@ -178,7 +179,7 @@ pub fn given_signed(s: &[u8], c: Cursor, there: bool) -> SignedGiven
 pub fn offset_fits(d: i32) -> bool
     ensures { λ r. ⌜ r ≡ offsetFits d ⌝ }
 {
-    between(-6, 6, d as i64)
+    within_signed(-6, 6, d as i64)
 }
 
 fn offset(s: &[u8], c: Cursor, number: u8) -> SignedGiven

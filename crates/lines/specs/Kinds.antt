@@ -3,13 +3,12 @@ use Prim.Native.Nat.{ℕ, _+_, _/_, _%_}
 use mathlib.Core.List.{List, [], _∷_, _++_}
 use lib.Dec.{ltb}
 use Rattle.bits.specs.Refusals.{pick}
-use Rattle.nal.specs.declared.extension.ExtensionRead.{ExtensionRead}
-use Rattle.nal.specs.Extension.{extensionFrom}
+use Rattle.nal.specs.Extension.{extensionFrom, isSvc}
 use Rattle.unit.specs.declared.head.UnitHead.{UnitHead}
 use Rattle.unit.specs.declared.head.HeadRead.{HeadRead}
 use Rattle.unit.specs.Begin.{hasExtension}
 use Rattle.lines.specs.Text.{words, field}
-use Rattle.lines.specs.Lines.{svcIn, refusedText, lineOf}
+use Rattle.lines.specs.Lines.{refusedText, lineOf}
 
 -- a byte as two hexadecimal digits: 48 is `0`, 97 is `a`
 abbrev pub hexDigit : ℕ → ℕ
@@ -21,7 +20,7 @@ hexText b = hexDigit (b / 16) ∷ hexDigit (b % 16) ∷ []
 -- which extension it is, and its three bytes
 unfoldable pub extensionText : UnitHead → List ℕ
 extensionText h =
-    pick (svcIn (ExtensionRead.Got (extensionFrom (h .b1) (h .b2) (h .b3)))) (words " ext=svc ") (words " ext=mvc ")
+    pick (isSvc (extensionFrom (h .b1) (h .b2) (h .b3))) (words " ext=svc ") (words " ext=mvc ")
     ++ hexText (h .b1) ++ hexText (h .b2) ++ hexText (h .b3)
 
 unfoldable pub kindText : UnitHead → List ℕ

@@ -8,8 +8,8 @@ use lib.ListN.{length, getD}
 use lib.Seq.{sets}
 use Rattle.bits.specs.Refusals.{pick}
 use Rattle.bits.specs.declared.refusals.Refusal.{Refusal}
-use Rattle.nal.specs.declared.extension.NalHeaderExtension.{NalHeaderExtension}
 use Rattle.nal.specs.declared.extension.ExtensionRead.{ExtensionRead}
+use Rattle.nal.specs.Extension as extension
 use Rattle.nal.specs.Extension.{extensionOf}
 use Rattle.syntax.specs.declared.record.SliceHeader.{SliceHeader}
 use Rattle.unit.specs.declared.answer.UnitAnswer.{UnitAnswer}
@@ -20,8 +20,7 @@ use Rattle.lines.specs.Text.{words, signed, field}
 
 -- the extension is SVC's; a prefix unit has one
 abbrev pub svcIn : ExtensionRead → Bool
-svcIn (ExtensionRead.Got (NalHeaderExtension.Svc e)) = true
-svcIn (ExtensionRead.Got (NalHeaderExtension.Mvc e)) = false
+svcIn (ExtensionRead.Got e) = extension.isSvc e
 svcIn (ExtensionRead.Refused r) = false
 
 unfoldable pub isSvc : List ℕ → Bool

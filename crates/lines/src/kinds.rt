@@ -10,11 +10,9 @@ ghost use mathlib.Core.Path.{_≡_};
 ghost use mathlib.Core.List.{[]};
 ghost use Prim.Native.Nat.{_+_, _≤_, _<_};
 ghost use Rattle.bits.specs.Refusals.{pick};
-ghost use Rattle.nal.specs.declared.extension.ExtensionRead.{ExtensionRead};
-ghost use Rattle.nal.specs.Extension.{extensionFrom};
 ghost use Rattle.unit.specs.Begin.{hasExtension};
 ghost use Rattle.lines.specs.Text.{words, Put};
-ghost use Rattle.lines.specs.Lines.{svcIn, Written};
+ghost use Rattle.lines.specs.Lines.{Written};
 ghost use Rattle.lines.specs.Kinds.{hexDigit, hexText, extensionText, kindText, headText, headLine};
 
 fn hex_digit(n: u8) -> u8
@@ -35,15 +33,6 @@ fn hex(d: &mut [u8; 128], at: usize, b: u8) -> usize
     at + 2
 }
 
-fn is_svc(h: UnitHead) -> bool
-    ensures { λ r. ⌜ r ≡ svcIn (ExtensionRead.Got (extensionFrom (h .b1) (h .b2) (h .b3))) ⌝ }
-{
-    match NalHeaderExtension::from_bytes(h.b1, h.b2, h.b3) {
-        NalHeaderExtension::Svc(_) => true,
-        NalHeaderExtension::Mvc(_) => false,
-    }
-}
-
 fn extension_name(d: &mut [u8; 128], at: usize, svc: bool) -> usize
     requires { ⌜ at + 9 ≤ 128 ⌝ }
     ensures { λ r. ⌜ Put (now (d .entry)) at (pick svc (words " ext=svc ") (words " ext=mvc ")) r (now (d .exit)) × (r ≡ at + 9) ⌝ }
@@ -58,7 +47,8 @@ fn extension_words(d: &mut [u8; 128], at: usize, h: UnitHead) -> usize
     requires { ⌜ at ≤ 84 ⌝ }
     ensures { λ r. ⌜ Put (now (d .entry)) at (extensionText h) r (now (d .exit)) × (r ≤ 99) ⌝ }
 {
-    let a = extension_name(d, at, is_svc(h));
+    let svc = NalHeaderExtension::from_bytes(h.b1, h.b2, h.b3).is_svc();
+    let a = extension_name(d, at, svc);
     let b = hex(d, a, h.b1);
     let c = hex(d, b, h.b2);
     hex(d, c, h.b3)

@@ -1,9 +1,9 @@
-// QP and QS of a slice: 26, what the picture set that its header names begins with, and the header's own difference. In 64 bits, which hold the sum of any
-// numbers of 32.
+// QP and QS of a slice: 26, what the picture set that its header names begins with, and the header's own difference.
+use fields::quant::level;
 use table::words::FoundPicture;
 use table::words::picture_in;
 ghost use mathlib.Core.Path.{_≡_};
-ghost use Rattle.lines.specs.Level.{initQp, initQs, level, finalQp, finalQs};
+ghost use Rattle.lines.specs.Level.{initQp, initQs, finalQp, finalQs};
 
 fn init_qp(pictures: &[u32; 2304], id: u32) -> i32
     ensures { λ r. ⌜ r ≡ initQp (now (pictures .entry)) id ⌝ }
@@ -21,12 +21,6 @@ fn init_qs(pictures: &[u32; 2304], id: u32) -> i32
         FoundPicture::There(p, _) => p.pic_init_qs_minus26,
         FoundPicture::Absent => 0,
     }
-}
-
-fn level(init: i32, delta: i32) -> i64
-    ensures { λ r. ⌜ r ≡ level init delta ⌝ }
-{
-    26 + init as i64 + delta as i64
 }
 
 // QP, by the picture set's id and slice_qp_delta.

@@ -5,7 +5,6 @@ use crate::text::signed_number;
 use crate::text::words;
 use bits::refusals::Refusal;
 use nal::extension::ExtensionRead;
-use nal::extension::NalHeaderExtension;
 use nal::extension::extension_of;
 use unit::into::ShortAnswer;
 ghost use mathlib.Core.Path.{_≡_};
@@ -18,10 +17,7 @@ fn is_svc(unit: &[u8]) -> bool
     ensures { λ r. ⌜ r ≡ isSvc (now (unit .entry)) ⌝ }
 {
     match extension_of(unit) {
-        ExtensionRead::Got(e) => match e {
-            NalHeaderExtension::Svc(_) => true,
-            NalHeaderExtension::Mvc(_) => false,
-        },
+        ExtensionRead::Got(e) => e.is_svc(),
         ExtensionRead::Refused(_) => false,
     }
 }

@@ -1,7 +1,7 @@
 -- The three extension bytes of a NAL unit, as 24 bits: each field by its first bit and its width, in the order of the syntax tables.
 use Prim.Native.Nat.{ℕ}
 use mathlib.Core.List.{List, [], _∷_}
-use mathlib.Core.Bool.{Bool}
+use mathlib.Core.Bool.{Bool, true, false}
 use lib.Dec.{leb}
 use lib.IntN.{pos}
 use lib.ListN.{length, getD}
@@ -26,6 +26,10 @@ extensionFrom b1 b2 b3 =
     pick (svcExtensionFlag (threeBytes b1 b2 b3))
     (NalHeaderExtension.Svc (record { b1 = b1; b2 = b2; b3 = b3 }))
     (NalHeaderExtension.Mvc (record { b1 = b1; b2 = b2; b3 = b3 }))
+
+abbrev pub isSvc : NalHeaderExtension → Bool
+isSvc (NalHeaderExtension.Svc e) = true
+isSvc (NalHeaderExtension.Mvc e) = false
 
 -- bytes 1, 2 and 3 of the unit, or refusal 4
 unfoldable pub extensionOf : List ℕ → ExtensionRead

@@ -3,7 +3,7 @@ use bits::refusals::NO_EXTENSION;
 use bits::refusals::Refusal;
 use bits::refusals::refuse;
 ghost use mathlib.Core.Path.{_≡_};
-ghost use Rattle.nal.specs.Extension.{extensionFrom, extensionOf};
+ghost use Rattle.nal.specs.Extension.{extensionFrom, isSvc, extensionOf};
 ghost use Rattle.nal.specs.Extension.{nonIdrFlag, mvcPriorityId, viewId, mvcTemporalId, anchorPicFlag, interViewFlag};
 ghost use Rattle.nal.specs.Extension.{idrFlag, svcPriorityId, noInterLayerPredFlag, dependencyId, qualityId, svcTemporalId};
 ghost use Rattle.nal.specs.Extension.{useRefBasePicFlag, discardableFlag, outputFlag};
@@ -130,6 +130,15 @@ impl NalHeaderExtension {
             return NalHeaderExtension::Svc(NalHeaderSvcExtension { b1, b2, b3 });
         }
         NalHeaderExtension::Mvc(NalHeaderMvcExtension { b1, b2, b3 })
+    }
+
+    pub fn is_svc(self) -> bool
+        ensures { λ r. ⌜ r ≡ isSvc self ⌝ }
+    {
+        match self {
+            NalHeaderExtension::Svc(_) => true,
+            NalHeaderExtension::Mvc(_) => false,
+        }
     }
 }
 

@@ -2,11 +2,10 @@
 use bits::read::Cursor;
 use bits::refusals::Refusal;
 use bits::refusals::no_refusal;
-use fields::conditions::I;
 use fields::conditions::SI;
 use fields::conditions::SP;
-use fields::conditions::both;
 use fields::conditions::either;
+use fields::conditions::has_cabac;
 use fields::conditions::is_type;
 use fields::quant::qp_delta;
 use fields::quant::qs_delta_if;
@@ -22,10 +21,8 @@ use fields::step::why_number;
 use fields::step::why_signed;
 use syntax::context::Context;
 use syntax::record::Quantiser;
-ghost use mathlib.Core.Bool.{not, _&&_};
 ghost use mathlib.Core.Path.{_≡_};
 ghost use Rattle.bits.specs.Bits.{bitsOf};
-ghost use Rattle.syntax.specs.Context.{isI, isSI};
 ghost use Rattle.syntax.specs.SliceHeader.{quantiser};
 ghost use Rattle.parts.specs.Steps.{asQuantiser, whyQuantiser};
 
@@ -42,16 +39,6 @@ pub fn why_quantiser(a: QuantiserStep) -> Refusal
         QuantiserStep::Got(_, _) => no_refusal(),
         QuantiserStep::Refused(r) => r,
     }
-}
-
-// Whether cabac_init_idc is there.
-fn has_cabac(x: Context, slice_type: u32) -> bool
-    ensures { λ r. ⌜ r ≡ x .picture .«entropy_coding_mode_flag» && (not (isI «slice_type») && not (isSI «slice_type»)) ⌝ }
-{
-    both(
-        x.picture.entropy_coding_mode_flag,
-        both(!is_type(slice_type, I), !is_type(slice_type, SI)),
-    )
 }
 
 pub fn quantiser(s: &[u8], c: Cursor, x: Context, slice_type: u32) -> QuantiserStep

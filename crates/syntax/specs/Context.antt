@@ -104,6 +104,10 @@ sequenceFor t id = sequenceIn (sequenceAt t (sequenceIdFor t id))
 unfoldable pub contextFor : Table → UnitKind → ℕ → Context
 contextFor t n id = record { kind = n; picture = pictureFor t id; sequence = sequenceFor t id; «cycle_width» = widthFor t id }
 
+-- QP and QS (7.4.3: SliceQPY and QSY): 26, what the picture set begins with, and the header's difference; a sum of integers, which cannot wrap
+abbrev pub level : ℤ → ℤ → ℤ
+level init delta = pos 26 +ℤ init +ℤ delta
+
 -- ---- conditions of 7.3.3 on the sets
 
 module _ (x : Context) where
@@ -120,16 +124,20 @@ module _ (x : Context) where
   abbrev pub orderType : ℕ → Bool
   orderType n = eqb (s .«pic_order_cnt_type») n
 
+  -- cabac_init_idc is there
+  abbrev pub hasCabac : ℕ → Bool
+  hasCabac k = p .«entropy_coding_mode_flag» && (not (isI k) && not (isSI k))
+
   -- pred_weight_table( ) is there
   abbrev pub isWeighted : ℕ → Bool
   isWeighted k = (p .«weighted_pred_flag» && (isP k || isSP k)) || (eqb (p .«weighted_bipred_idc») 1 && isB k)
 
-  -- QP and QS in range; the sums are of integers and cannot wrap
+  -- QP and QS in range
   abbrev pub qpFits : ℤ → Bool
-  qpFits d = betweenZ (negℤ (pos (6 * s .«bit_depth_luma_minus8»))) (pos 51) (pos 26 +ℤ p .«pic_init_qp_minus26» +ℤ d)
+  qpFits d = betweenZ (negℤ (pos (6 * s .«bit_depth_luma_minus8»))) (pos 51) (level (p .«pic_init_qp_minus26») d)
 
   abbrev pub qsFits : ℤ → Bool
-  qsFits d = betweenZ (pos 0) (pos 51) (pos 26 +ℤ p .«pic_init_qs_minus26» +ℤ d)
+  qsFits d = betweenZ (pos 0) (pos 51) (level (p .«pic_init_qs_minus26») d)
 
   -- slice_group_map_type 3 to 5: the picture set has a change rate
   abbrev pub isChanging : Bool

@@ -16,7 +16,7 @@ use Rattle.table.specs.Tables.{pictureAt, sequenceAt}
 use Rattle.table.specs.Sets.{betweenZ}
 use Rattle.syntax.specs.Marks.{isZero, isZeroZ, numberIf, signedIf, flagIf, given}
 use Rattle.syntax.specs.Lists.{Kind, operations, operationsIf}
-use Rattle.syntax.specs.Context.{isB, isI, isSP, isSI, hasL0, isThere, isThereToo, sequenceIdFor, contextFor, hasChroma, orderType, isWeighted, qpFits, qsFits, isChanging}
+use Rattle.syntax.specs.Context.{isB, isSP, isSI, hasL0, isThere, isThereToo, sequenceIdFor, contextFor, hasChroma, orderType, hasCabac, isWeighted, qpFits, qsFits, isChanging}
 use Rattle.syntax.specs.declared.context.UnitKind.{UnitKind}
 use Rattle.syntax.specs.declared.context.Context.{Context}
 use Rattle.syntax.specs.declared.marks.MarkedNumber.{MarkedNumber}
@@ -232,7 +232,7 @@ quantiser x k =
     (λ v. record { «cabac_init_idc» = v .0; «slice_qp_delta» = v .1 .0; «sp_for_switch_flag» = v .1 .1 .0; «slice_qs_delta» = v .1 .1 .1 })
     (λ q. (q .«cabac_init_idc», (q .«slice_qp_delta», (q .«sp_for_switch_flag», q .«slice_qs_delta»))))
     (λ q. true)
-    (seq (numberIf (x .picture .«entropy_coding_mode_flag» && (not (isI k) && not (isSI k))) ue) (λ cabac-init-idc.
+    (seq (numberIf (hasCabac x k) ue) (λ cabac-init-idc.
     seq (test (qpFits x) 16 (λ d. d) se) (λ slice-qp-delta.
     seq (flagIf (isSP k)) (λ sp-for-switch-flag.
     signedIf (isSP k || isSI k) (test (qsFits x) 17 (λ d. d) se)))))

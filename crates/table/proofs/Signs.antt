@@ -7,8 +7,23 @@ use borrow.Author.Tests.{leb-true, le-ltb, lt-leb}
 use lib.Dec.{ltb}
 use lib.IntN.{ℤ, pos, negsuc, negℤ, natAbs, _+ℤ_, _-ℤ_, +ℤ-negℤ-cancel}
 use lib.Signed.{mag, leZ}
+use mir.Syntax.{Width, w32, w64}
+use mir.Val.{SFits, toZ, ofZ}
+use mir.Facts.{toZ-ofZ, sfits-widen}
 use Rattle.table.specs.Sets.{betweenZ}
 use Rattle.table.proofs.Tests.{both}
+
+-- ---- as the machine hands them on
+
+abbrev pub held : Width → ℤ → ℤ
+held w z = toZ w (ofZ w z)
+
+-- a number of 32 bits, cast to 64
+pub wide-fits : {z : ℤ} → SFits w32 z → SFits w64 (held w32 z)
+wide-fits f = rw (toZ-ofZ f) (sfits-widen {w = w32} tt f)
+
+pub wide-is : {z : ℤ} → SFits w32 z → held w64 (held w32 z) ≡ z
+wide-is f = toZ-ofZ (wide-fits f) ∙ toZ-ofZ f
 
 -- ---- a word's number
 

@@ -3,11 +3,9 @@ use mathlib.Core.Path.{_≡_, refl, sym, _∙_}
 use mathlib.Core.Bool.{Bool, true, false, not, _&&_, and-true, true≢false}
 use mathlib.Core.List.{List, [], _∷_}
 use Prim.Native.Nat.{ℕ, zero, suc}
-use borrow.Author.Tests.{not-true, not-false, ltb-true, ltb-false, eqb-true, eqb-false, le-leb, lt-leb}
-use lib.Dec.{ltb, leb, eqb}
-use lib.IntN.{ℤ, pos, negsuc}
+use borrow.Author.Tests.{not-true, not-false, eqb-true, eqb-false}
+use lib.Dec.{eqb}
 use lib.ListN.{getD}
-use lib.Signed.{ltZ, leZ}
 use Rattle.table.specs.Sets.{all}
 
 -- ---- a list of tests
@@ -72,18 +70,3 @@ is-it a b = by (eqb a b) refl
     by : (t : Bool) → eqb a b ≡ t → Dec (a ≡ b)
     by true e = yes (eqb-true a b e)
     by false e = no (eqb-false a b e)
-
--- ---- the two orders
-
-not-lt : (a b : ℕ) → leb b a ≡ not (ltb a b)
-not-lt a b = by (ltb a b) refl
-  where
-    by : (t : Bool) → ltb a b ≡ t → leb b a ≡ not t
-    by true h = lt-leb _ _ (ltb-true a b h)
-    by false h = le-leb _ _ (ltb-false a b h)
-
-pub not-less : (a b : ℤ) → leZ b a ≡ not (ltZ a b)
-not-less (pos a) (pos b) = not-lt a b
-not-less (pos a) (negsuc b) = refl
-not-less (negsuc a) (pos b) = refl
-not-less (negsuc a) (negsuc b) = not-lt b a

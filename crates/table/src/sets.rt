@@ -35,7 +35,7 @@ pub struct Picture {
 }
 
 // Both hold. The tests of a set are one condition, so that a look-up has one branch for them.
-pub(crate) fn both(a: bool, b: bool) -> bool
+pub fn both(a: bool, b: bool) -> bool
     ensures { λ r. ⌜ r ≡ a && b ⌝ }
 {
     if a { b } else { false }
@@ -51,13 +51,11 @@ pub(crate) fn within(low: u32, high: u32, n: u32) -> bool
     n <= high
 }
 
-fn within_signed(low: i32, high: i32, z: i32) -> bool
+// The same of a signed number; those of 32 bits come cast.
+pub fn within_signed(low: i64, high: i64, z: i64) -> bool
     ensures { λ r. ⌜ r ≡ betweenZ low high z ⌝ }
 {
-    if z < low {
-        return false;
-    }
-    z <= high
+    if low <= z { z <= high } else { false }
 }
 
 // Separate planes only with chroma format 3.
@@ -107,9 +105,9 @@ pub fn picture_fits(p: Picture) -> bool
                 both(
                     within(0, 2, p.weighted_bipred_idc),
                     both(
-                        within_signed(-62, 25, p.pic_init_qp_minus26),
+                        within_signed(-62, 25, p.pic_init_qp_minus26 as i64),
                         both(
-                            within_signed(-26, 25, p.pic_init_qs_minus26),
+                            within_signed(-26, 25, p.pic_init_qs_minus26 as i64),
                             within(0, 16_777_216, p.slice_group_change_rate),
                         ),
                     ),

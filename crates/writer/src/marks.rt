@@ -5,6 +5,7 @@ use crate::places::place_of;
 use bits::read::Cursor;
 use fields::quant::qp_fits;
 use fields::quant::qs_fits;
+use fields::read::four_more;
 use fields::read::offset_fits;
 use syntax::context::Context;
 use syntax::marks::MarkedFlag;
@@ -109,13 +110,6 @@ pub(crate) fn put_bits_if(d: &mut [u8], c: Cursor, there: bool, m: MarkedNumber,
         return Cursor { at: NOWHERE };
     }
     if there { put_bits(d, c, n, m.value) } else { c }
-}
-
-// A width that counts as n + 4, which may not fit: over 32 all widths count as 32.
-fn four_more(n: u32) -> u32
-    ensures { λ r. ⌜ u r ≡ u (n + 4) ⌝ }
-{
-    if n < 32 { n + 4 } else { n }
 }
 
 // u(n + 4): pic_order_cnt_lsb.

@@ -4,29 +4,16 @@ use crate::marks::put_number_if;
 use crate::marks::put_qp;
 use crate::marks::put_qs_if;
 use bits::read::Cursor;
-use fields::conditions::I;
 use fields::conditions::SI;
 use fields::conditions::SP;
-use fields::conditions::both;
 use fields::conditions::either;
+use fields::conditions::has_cabac;
 use fields::conditions::is_type;
 use syntax::context::Context;
 use syntax::record::Quantiser;
-ghost use mathlib.Core.Bool.{not, _&&_};
 ghost use mathlib.Core.Path.{_≡_};
-ghost use Rattle.syntax.specs.Context.{isI, isSI};
 ghost use Rattle.syntax.specs.SliceHeader.{quantiser};
 ghost use Rattle.writer.specs.Places.{PutTo};
-
-// Whether cabac_init_idc is there.
-fn has_cabac(x: Context, slice_type: u32) -> bool
-    ensures { λ r. ⌜ r ≡ x .picture .«entropy_coding_mode_flag» && (not (isI «slice_type») && not (isSI «slice_type»)) ⌝ }
-{
-    both(
-        x.picture.entropy_coding_mode_flag,
-        both(!is_type(slice_type, I), !is_type(slice_type, SI)),
-    )
-}
 
 pub(crate) fn put_quantiser(
     d: &mut [u8],

@@ -1,4 +1,5 @@
-use Rattle.fields.proofs.Sums.{wide-fits, first-fits, sum-fits, sum-is}
+use Rattle.table.proofs.Signs.{wide-fits}
+use Rattle.fields.proofs.Sums.{first-fits, sum-fits, sum-is}
 use Rattle.fields.proofs.quant.level.Statement.{statement}
 use Rattle.fields.proofs.quant.level.Tie as tie
 

@@ -4,7 +4,7 @@ use mir.Syntax.{w32}
 use mir.Val.{SFits}
 use Rattle.fields.specs.Steps.{asGiven}
 use Rattle.fields.proofs.Cases.{test-none, test-pass, test-fail}
-use Rattle.fields.proofs.Sums.{wide-fits, wide-is}
+use Rattle.table.proofs.Signs.{wide-fits, wide-is}
 use borrow.Author.Needs.{needs}
 use Rattle.fields.proofs.quant.qp_delta.Statement.{statement}
 use Rattle.fields.proofs.quant.qp_delta.Tie as tie

@@ -1,6 +1,6 @@
 use borrow.Author.Needs.{needs}
-use Rattle.parts.proofs.quantiser.has_cabac.Statement.{statement}
-use Rattle.parts.proofs.quantiser.has_cabac.Tie as tie
+use Rattle.fields.proofs.conditions.has_cabac.Statement.{statement}
+use Rattle.fields.proofs.conditions.has_cabac.Tie as tie
 
 returns : tie.Need-returns
 returns c = rw (c .both2 .ensures, c .before .both .ensures, c .before .before .before .is-type .ensures, c .before .before .is-type2 .ensures)
