@@ -1,17 +1,12 @@
 #!/usr/bin/env python3
 """Makes the recordings of the benchmark: a night sky of our own, by x264 (Debian package x264), which fails where that is missing.
 
-recordings.py FOLDER   writes NAME.264, and NAME.table with its parameter sets, for each recording that is not there yet
+recordings.py FOLDER   writes NAME.264 for each recording that is not there yet
 """
 import pathlib
 import random
 import subprocess
 import sys
-
-HERE = pathlib.Path(__file__).resolve().parent
-sys.path.insert(0, str(HERE.parent / "tests"))
-
-from parameter_sets import words_of  # noqa: E402
 
 # CABAC, P and B slices, weights that follow the cloud
 COMMON = ["--quiet", "--no-progress", "--demuxer", "y4m", "--profile", "high", "--preset", "veryfast", "--bframes", "2", "--weightp", "2", "--ref", "3"]
@@ -42,8 +37,8 @@ def main():
     folder = pathlib.Path(sys.argv[1])
     folder.mkdir(parents=True, exist_ok=True)
     for name, (width, height, frames, noise, options) in RECORDINGS.items():
-        clip, table, new = folder / f"{name}.264", folder / f"{name}.table", folder / f"{name}.new"
-        if table.exists():
+        clip, new = folder / f"{name}.264", folder / f"{name}.new"
+        if clip.exists():
             continue
         with subprocess.Popen(["x264", *COMMON, *options, "-o", new, "-"], stdin=subprocess.PIPE) as x264:
             for piece in sky(width, height, frames, noise):
@@ -52,7 +47,6 @@ def main():
         if x264.returncode:
             sys.exit(f"recordings: x264 failed on {name}")
         new.rename(clip)
-        table.write_text("\n".join(words_of(clip.read_bytes())) + "\n")
         print(f"recordings: made {clip}: {clip.stat().st_size:,} bytes", file=sys.stderr)
 
 

@@ -1,4 +1,4 @@
-/* example CLIP: the units of a recording by the sample sets, as `tuz list CLIP --sample -q` prints them.
+/* example CLIP: the units of a recording, as `tuz list CLIP -q` prints them.
  * example CLIP kinds: what their first bytes say, as `tuz kinds CLIP -q` prints it.
  *
  *     cc -Iinclude include/example.c target/staticlib/libexports.a -o example
@@ -11,15 +11,10 @@
 /* What a reading is lent; it is used again for every unit. */
 static uint32_t numbers[TUZ_NUMBERS], l0[198], l1[198], marking[198], base[198];
 static int32_t signed_numbers[TUZ_SIGNED], w0[256], w1[256];
+/* Empty at first; each step puts the set that it has read there. tuz_put_sequence and tuz_put_picture put one by hand. */
 static tuz_Table table;
 
-static void put_sample(void) {
-  tuz_Sequence sequence = {.chroma_format_idc = 1, .log2_max_frame_num = 4, .pic_order_cnt_type = 2, .frame_mbs_only_flag = true, .pic_size_in_map_units = 99};
-  tuz_Picture picture = {0};
-  if (tuz_put_sequence(&table, 0, sequence).number || tuz_put_picture(&table, 0, picture).number)
-    abort();
-}
-
+/* By the table as the step left it: a slice does not change it. */
 static void tell(const tuz_WalkOut *step, const uint8_t *unit) {
   uint8_t line[128];
   size_t end = tuz_unit_line(line, table.pictures, step->place, step->length, unit, step->length, step->read.answer, (uint8_t)step->read.number, step->read.value, step->read.has_bit, step->read.bit, numbers, signed_numbers);
@@ -67,7 +62,6 @@ int main(int count, char **words) {
     return 2;
   if (count == 3)
     return kinds(recording, length);
-  put_sample();
   tuz_WalkOut step = {0};
   for (;; units++) {
     tuz_walk(&step, table.sequences, table.pictures, recording, length, step.next, scratch, length, numbers, signed_numbers, l0, l1, marking, w0, w1, base);

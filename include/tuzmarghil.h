@@ -16,7 +16,7 @@ extern "C" {
 #endif
 
 /* The number of this layout: what tuz_layout() answers in an archive made from the same sources. */
-#define TUZ_LAYOUT 7
+#define TUZ_LAYOUT 8
 
 /* The bytes of a buffer that holds every slice header: tuz_write_header never answers 26 to it. */
 #define TUZ_HEADER_BYTES 6144
@@ -149,9 +149,9 @@ typedef struct {
 
 /* What reading a unit answers. What the answer does not speak of is zero. */
 typedef struct {
-  /* 0: a unit of another type; 1: a slice; 2: a prefix unit; 3: refused */
+  /* 0: a unit of another type; 1: a slice; 2: a prefix unit; 3: refused; 4: a sequence set; 5: a picture set */
   uint32_t answer;
-  /* the type of another unit, or the refusal's number */
+  /* the type of another unit, the refusal's number, or the set's id */
   uint32_t number;
   /* the refusal's value */
   int64_t value;
@@ -162,6 +162,9 @@ typedef struct {
   size_t bits;
   /* its list stands in words that the caller lends, as a slice's header does */
   tuz_PrefixShort prefix;
+  /* a parameter set */
+  tuz_Sequence sequence;
+  tuz_Picture picture;
 } tuz_ReadOut;
 
 /* The step's part of it, where nothing is read. */
@@ -222,9 +225,9 @@ _Static_assert(sizeof(tuz_MvcExtensionOut) == 8, "tuz_MvcExtensionOut");
 _Static_assert(sizeof(tuz_ExtensionOut) == 18, "tuz_ExtensionOut");
 _Static_assert(sizeof(tuz_MarkedFlag) == 2, "tuz_MarkedFlag");
 _Static_assert(sizeof(tuz_PrefixShort) == 12, "tuz_PrefixShort");
-_Static_assert(sizeof(tuz_ReadOut) == 56, "tuz_ReadOut");
+_Static_assert(sizeof(tuz_ReadOut) == 128, "tuz_ReadOut");
 _Static_assert(sizeof(tuz_StepOut) == 40, "tuz_StepOut");
-_Static_assert(sizeof(tuz_WalkOut) == 96, "tuz_WalkOut");
+_Static_assert(sizeof(tuz_WalkOut) == 168, "tuz_WalkOut");
 _Static_assert(sizeof(tuz_ExtensionGiven) == 4, "tuz_ExtensionGiven");
 _Static_assert(sizeof(tuz_WroteOut) == 24, "tuz_WroteOut");
 #endif
@@ -351,8 +354,8 @@ void tuz_body(tuz_ReadOut *result, tuz_UnitHead head, const uint32_t sequences[2
 /* One step of the walk from a place on, with nothing read: the unit's bytes are for `tuz_head`. */
 void tuz_next_unit(tuz_StepOut *result, const uint8_t *recording, size_t recording_len, size_t from);
 
-/* One step of the walk from a place on, by the sets in a table's two arrays. Scratch needs as many bytes as the longest unit has. Words are written as by `tuz_body`; where there is no unit, none is. */
-void tuz_walk(tuz_WalkOut *result, const uint32_t sequences[224], const uint32_t pictures[2304], const uint8_t *recording, size_t recording_len, size_t from, uint8_t *scratch, size_t scratch_len, uint32_t numbers[57], int32_t signed_numbers[7], uint32_t l0[198], uint32_t l1[198], uint32_t marking[198], int32_t w0[256], int32_t w1[256], uint32_t base[198]);
+/* One step of the walk from a place on, by the sets in a table's two arrays. Scratch needs as many bytes as the longest unit has. A set that is read goes into the arrays. Words are written as by `tuz_body`; where there is no unit, none is. */
+void tuz_walk(tuz_WalkOut *result, uint32_t sequences[224], uint32_t pictures[2304], const uint8_t *recording, size_t recording_len, size_t from, uint8_t *scratch, size_t scratch_len, uint32_t numbers[57], int32_t signed_numbers[7], uint32_t l0[198], uint32_t l1[198], uint32_t marking[198], int32_t w0[256], int32_t w1[256], uint32_t base[198]);
 
 /* The header that words hold, as `tuz_body` lays them down, written by the sets in a table's two arrays, for the unit that the first byte and the extension tell of. A refusal leaves the buffer as it was. Words behind a list's count are not looked at. */
 void tuz_write_header(tuz_WroteOut *result, const uint32_t sequences[224], const uint32_t pictures[2304], uint8_t first, tuz_ExtensionGiven extension, const uint32_t numbers[57], const int32_t signed_numbers[7], const uint32_t l0[198], const uint32_t l1[198], const uint32_t marking[198], const int32_t w0[256], const int32_t w1[256], uint8_t *out, size_t out_len);

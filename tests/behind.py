@@ -5,7 +5,7 @@
 
 Each change alters, takes out or puts in bytes after the last raw byte that holds a header bit, most of them right behind it, and often zeros, 03s and end marks.
 Half of the changed units are read as they are, half up to the end mark that the change put in, as a walk would. A change that leaves no set bit later than the one
-that follows the header promises nothing, and is counted apart. CLIP.table beside a clip holds its parameter sets. COMMAND is asked as `COMMAND cases FILE` (else $TUZ
+that follows the header promises nothing, and is counted apart. COMMAND is asked as `COMMAND cases FILE` (else $TUZ
 is, else ./tuz); with --model, rules.py itself answers. N is the number of changes that promise something; the exit status is 1 where one alters an answer.
 """
 import argparse
@@ -17,7 +17,7 @@ import subprocess
 import sys
 import tempfile
 
-from rules import END_MARK, cases, unescaped, units
+from rules import END_MARK, cases, sets_in, unescaped, units
 
 ROOT = pathlib.Path(__file__).resolve().parent.parent
 ODD = (b"\0", b"\0\0", b"\3", b"\0\0\3", b"\0\0\1", b"\0\0\0", b"\0\3", b"\1", b"\x80", b"\xff")
@@ -70,8 +70,8 @@ def answers(command, lines):
 
 
 def slices(command, clip):
-    """The slices of a clip: the words of its table, the unit, its answer and its header's bits."""
-    words = " ".join(clip.with_suffix(".table").read_text().split())
+    """The slices of a clip: the words of its sets, the unit, its answer and its header's bits."""
+    words = " ".join(sets_in(clip.read_bytes()))
     found = [unit for _, unit in units(clip.read_bytes()) if unit]
     said = answers(command, [f"{words} {unit.hex()}" for unit in found])
     return [(words, unit, line, int(line.rpartition("=")[2])) for unit, line in zip(found, said) if line.startswith("slice")]

@@ -93,6 +93,17 @@ def clip(seed, pictures=12, size=60):
     return out
 
 
+def pps(id, qp, rate=0):
+    """A picture set under sequence set 0; a change rate makes two slice groups of type 3."""
+    groups = ue(1) + ue(3) + "0" + ue(rate - 1) if rate else ue(0)
+    return b"\x68" + escaped(from_bits(ue(id) + ue(0) + "00" + groups + ue(0) + ue(0) + "0" + "00" + se(qp) + se(0) + se(0) + "000" + "1"))
+
+
+def sps(id, width, frame_num=4):
+    """A sequence set of profile 66: order count type 2, one row of map units."""
+    return b"\x67" + escaped(from_bits(f"{66:08b}{0:08b}{30:08b}" + ue(id) + ue(frame_num - 4) + ue(2) + ue(1) + "0" + ue(width - 1) + ue(0) + "1" + "1001"))
+
+
 def torn(s, at, sector):
     return s[:at] + sector + s[at + len(sector) :]
 
@@ -126,6 +137,11 @@ def recordings():
     yield "large_values", b"".join(CODE + b"\x01" + escaped(from_bits(t + "1" * 16)) for t in (ue(0) + ue(4294967294), ue(0) + ue(10), ue(0) + ue(5) + ue(256), ue(0) + ue(5) + ue(255), "0" * 31 + "1", "0" * 24))
     yield "nothing_follows", b"".join(CODE + bytes.fromhex(u) for u in ("65888480", "658884c0", "658884a0"))
     yield "escaped", CODE + bytes.fromhex("6500000301") + CODE + bytes.fromhex("41000003000003")
+    slices = CODE + i_slice(0, b"\xff" * 5) + CODE + p_slice(3, 5, -2, b"\xff" * 5)
+    yield "sets", CODE + sps(0, 99) + CODE + pps(0, 4) + slices
+    yield "sets_replaced", slices + CODE + pps(0, -7) + slices + CODE + sps(0, 99, 9) + slices + CODE + pps(0, 4, 11) + slices + CODE + sps(0, 7) + slices
+    yield "sets_refused", CODE + pps(0, 4) + CODE + pps(256, 9) + CODE + pps(0, 26) + CODE + sps(32, 9) + CODE + sps(0, 16_777_217) + CODE + pps(0, 9)[:3] + CODE + sps(0, 5)[:4] + slices
+    yield "sets_of_other_ids", CODE + pps(255, 4) + CODE + sps(31, 5) + slices + CODE + b"\x67" + CODE + b"\x68" + CODE + b"\x6f\x42\0\x3e" + slices
     for n in (MOST, MOST + 1):
         yield f"bytes_{n}", (clip(3, 3000) + bytes(n))[:n]
     yield "many_units", (CODE + b"\x09") * (MOST // 4)

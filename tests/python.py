@@ -15,7 +15,8 @@ import numpy
 import tuzmarghil
 
 ROOT = pathlib.Path(__file__).resolve().parent.parent
-NAMES = "place length answer refusal value bit why nal_unit_type nal_ref_idc first_mb_in_slice slice_type family pic_parameter_set_id frame_num slice_qp_delta bits qp".split()
+NAMES = "place length answer refusal value bit why nal_unit_type nal_ref_idc first_mb_in_slice slice_type family pic_parameter_set_id seq_parameter_set_id frame_num slice_qp_delta bits qp".split()
+TYPES = {"prefix": 14, "sps": 7, "pps": 8}
 
 
 def held(what, good):
@@ -23,13 +24,13 @@ def held(what, good):
         sys.exit(f"python: {what}")
 
 
-def told(port, clip, table):
-    """The command's objects. Of another unit it names the type alone, of a prefix unit not even that."""
-    words = [port, "headers", clip, "--table", table, "-q", "--format", "json"]
+def told(port, clip):
+    """The command's objects. Of another unit it names the type alone, of a prefix unit and a set not even that."""
+    words = [port, "headers", clip, "-q", "--format", "json"]
     for line in subprocess.run(words, check=True, capture_output=True, text=True).stdout.splitlines():
         unit = json.loads(line)
-        if unit["answer"] in ("other", "prefix"):
-            unit["nal_unit_type"] = unit.get("type", 14)
+        if unit["answer"] not in ("slice", "refused"):
+            unit["nal_unit_type"] = unit.get("type", TYPES.get(unit["answer"]))
         yield {name: unit.get(name) for name in NAMES}
 
 
@@ -43,14 +44,13 @@ def kinds_told(port, clip):
         yield {name: unit.get("type" if name == "nal_unit_type" else name) for name in KINDS}
 
 
-def compared(port, clip, table):
-    sets = table.read_text()
-    wanted = list(told(port, str(clip), str(table)))
-    found = [{name: getattr(r, name) for name in NAMES} for r in tuzmarghil.reports(clip, sets)]
+def compared(port, clip):
+    wanted = list(told(port, str(clip)))
+    found = [{name: getattr(r, name) for name in NAMES} for r in tuzmarghil.reports(clip)]
     held(f"{clip.name}: another unit", wanted == found and wanted)
     kinds = [{name: getattr(k, name) for name in KINDS} for k in tuzmarghil.kinds(clip)]
     held(f"{clip.name}: another kind", kinds == list(kinds_told(port, str(clip))) and len(kinds) == len(wanted))
-    qp = numpy.asarray(tuzmarghil.qp(str(clip), table=sets))
+    qp = numpy.asarray(tuzmarghil.qp(str(clip)))
     points = [numpy.nan if u["answer"] == "refused" else u["qp"] for u in wanted if u["answer"] in ("slice", "refused")]
     held(f"{clip.name}: another QP", numpy.array_equal(qp, points, equal_nan=True) and qp.dtype == numpy.float64)
     return len(wanted), int(numpy.isnan(qp).sum())
@@ -76,10 +76,17 @@ def errors():
             continue
         sys.exit(f"python: no {kind.__name__}")
     movie.unlink()
-    unread = [r for r in tuzmarghil.reports(clip) if r.answer == "refused"]
-    held("without a table slices are not refused with 9", [r.refusal for r in unread] == [9] * 24)
+    sets = [r.word for r in tuzmarghil.reports(clip) if r.answer in ("sps", "pps")]
+    held("the clip's sets are others", sets == ["sps:0:1:0:0:4:0:2:0:1:99", "pps:0:0:1:0:2:0:1:2:0:0:1:0:0"])
+    bare = pathlib.Path(tempfile.gettempdir()) / f"tuz-{os.getpid()}.264"
+    bare.write_bytes(b"\0\0\0\1" + clip.read_bytes()[740:])
+    unread = [r for r in tuzmarghil.reports(bare) if r.answer == "refused"]
+    held("without their sets slices are not refused with 9", [r.refusal for r in unread] == [9] * 24)
     held("a refusal does not show its place", "refusal=9 bit=" in repr(unread[0]))
-    held("the sample sets are not sets", next(tuzmarghil.reports(clip, tuzmarghil.SAMPLE)).answer == "other")
+    given = [r.qp for r in tuzmarghil.reports(bare, " ".join(sets)) if r.answer == "slice"]
+    held("sets to start with do not serve", given == list(tuzmarghil.qp(clip)))
+    bare.unlink()
+    held("the sample sets are not sets", next(tuzmarghil.reports(clip, tuzmarghil.SAMPLE)).answer == "sps")
     held("a report does not show itself", "place=4" in repr(next(tuzmarghil.reports(clip))))
     held("a kind does not show itself", "place=4 length=22 type=7" in repr(next(tuzmarghil.kinds(clip))))
 
@@ -88,9 +95,8 @@ def main():
     p = argparse.ArgumentParser(description=__doc__, formatter_class=argparse.RawDescriptionHelpFormatter)
     p.add_argument("--port", default=os.environ.get("TUZ", str(ROOT / "rust/target/release/tuz")))
     args = p.parse_args()
-    clips = [(ROOT / "demo/torn.264", ROOT / "demo/night.table")]
-    clips += [(clip, clip.with_suffix(".table")) for clip in sorted((ROOT / "tests/clips").glob("*.264"))]
-    counts = [compared(args.port, *clip) for clip in clips]
+    clips = [ROOT / "demo/torn.264", *sorted((ROOT / "tests/clips").glob("*.264"))]
+    counts = [compared(args.port, clip) for clip in clips]
     errors()
     units, refused = (sum(n) for n in zip(*counts))
     print(f"python: {units} units of {len(clips)} clips, {refused} of them refused, are as the command tells them")

@@ -2,7 +2,7 @@
 """The rules' reading of units and recordings in plain Python, with no line of the library and none of the Rust.
 
 rules.py cases FILE               an answer line for each case line
-rules.py list [--table FILE] CLIP a listing; FILE holds sps: and pps: words, else the sample sets serve
+rules.py list [--table FILE] CLIP a listing; the walk starts with the sets of FILE, which holds sps: and pps: words, or with none
 rules.py kinds CLIP               what the first bytes of each unit say
 The formats are those of the command `tuz`: docs/CASES.md.
 """
@@ -87,13 +87,18 @@ def set_of(word):
     return (Sequence if kind == "sps" else Picture)(*map(int, fields))
 
 
+def put(table, word):
+    """Puts the set that a word holds into the table; one out of range leaves it as it was."""
+    held = set_of(word)
+    if held.good():
+        table[word[:3], held.id] = held
+
+
 def table_of(words):
-    """The table that the words fill: a set out of range leaves it as it was."""
+    """The table that the words fill."""
     table = {}
     for word in words:
-        held = set_of(word)
-        if held.good():
-            table[word[:3], held.id] = held
+        put(table, word)
     return table
 
 
@@ -138,6 +143,20 @@ class Body:
         if value > most:
             raise self.refused(number, value)
         return value
+
+    def in_set(self, value, least, most):
+        """The value, a set's field that was just read: 28 where it is out of its range."""
+        if not least <= value <= most:
+            raise self.refused(28)
+        return value
+
+    def passed(self, count, n):
+        """Passes over so many fields of n bits each; the first that lacks bits is refused."""
+        whole = (len(self.bits) - self.at) // n
+        self.field = self.at + n * min(count, whole)
+        if count > whole:
+            raise self.refused(5)
+        self.at = self.field
 
     def more(self):
         """A set bit stands strictly after the next bit."""
@@ -297,6 +316,82 @@ def slice_header(b, table, ref_idc, kind, extension):
     return words + flags + [f"bits={b.at}"]
 
 
+HIGH_PROFILES = (100, 110, 122, 244, 44, 83, 86, 118, 128, 138, 139, 134, 135)
+MAP_UNITS = 16_777_216
+
+
+def scaling_list(b, size):
+    """scaling_list( ), 7.3.2.1.1.1, passed over."""
+    last = following = 8
+    for _ in range(size):
+        if following != 0:
+            following = (last + b.in_set(b.se(), -128, 127)) % 256
+        last = last if following == 0 else following
+
+
+def sequence_set(b):
+    """seq_parameter_set_data( ), 7.3.2.1.1, to frame_mbs_only_flag."""
+    profile, _, _ = b.u(8), b.u(8), b.u(8)
+    id = b.in_set(b.ue(), 0, 31)
+    chroma, separate, depth = 1, 0, 0
+    if profile in HIGH_PROFILES:
+        chroma = b.in_set(b.ue(), 0, 3)
+        if chroma == 3:
+            separate = b.u(1)
+        depth = b.in_set(b.ue(), 0, 6)
+        b.ue()  # bit_depth_chroma_minus8
+        b.u(1)  # qpprime_y_zero_transform_bypass_flag
+        if b.u(1):
+            for i in range(12 if chroma == 3 else 8):
+                if b.u(1):
+                    scaling_list(b, 16 if i < 6 else 64)
+    frame_num = 4 + b.in_set(b.ue(), 0, 12)
+    order, lsb, always_zero = b.in_set(b.ue(), 0, 2), 0, 0
+    if order == 0:
+        lsb = b.in_set(b.ue(), 0, 12)
+    if order == 1:
+        always_zero = b.u(1)
+        b.se()  # offset_for_non_ref_pic
+        b.se()  # offset_for_top_to_bottom_field
+        for _ in range(b.in_set(b.ue(), 0, 255)):
+            b.se()  # offset_for_ref_frame
+    b.ue()  # max_num_ref_frames
+    b.u(1)  # gaps_in_frame_num_value_allowed_flag
+    size = b.in_set((b.ue() + 1) * (b.ue() + 1), 1, MAP_UNITS)  # width, then height
+    return Sequence(id, chroma, separate, depth, frame_num, order, lsb, always_zero, b.u(1), size)
+
+
+def change_rate(b):
+    """The slice groups of a picture set: their change rate, 0 where they have none."""
+    groups = b.in_set(b.ue(), 0, 7)
+    kind = b.in_set(b.ue(), 0, 6) if groups else 1
+    if kind == 0:
+        for _ in range(groups + 1):
+            b.ue()  # run_length_minus1
+    if kind == 2:
+        for _ in range(groups):
+            b.ue(), b.ue()  # top_left, bottom_right
+    if kind in (3, 4, 5):
+        b.u(1)  # slice_group_change_direction_flag
+        return 1 + b.in_set(b.ue(), 0, MAP_UNITS - 1)
+    if kind == 6:
+        b.passed(b.ue() + 1, groups.bit_length())  # Ceil( Log2( groups + 1 ) ) bits each
+    return 0
+
+
+def picture_set(b):
+    """pic_parameter_set_rbsp( ), 7.3.2.2, to redundant_pic_cnt_present_flag."""
+    id, sps_id = b.in_set(b.ue(), 0, 255), b.in_set(b.ue(), 0, 31)
+    entropy, bottom = b.u(1), b.u(1)
+    rate = change_rate(b)
+    active = b.in_set(b.ue(), 0, 31), b.in_set(b.ue(), 0, 31)
+    weighted, bipred = b.u(1), b.in_set(b.u(2), 0, 2)
+    qp, qs = b.in_set(b.se(), -62, 25), b.in_set(b.se(), -26, 25)
+    b.se()  # chroma_qp_index_offset
+    deblocking, _, redundant = b.u(1), b.u(1), b.u(1)
+    return Picture(id, sps_id, entropy, bottom, *active, weighted, bipred, qp, qs, deblocking, redundant, rate)
+
+
 def base_marking(b):
     """The words of a prefix unit's operations."""
     return [f"base_mmco={joined(operations(b, 0, 2, 23, [0, 1, 1]))}"]
@@ -313,10 +408,10 @@ def prefix_body(b, extension):
     return words + [f"additional_prefix_nal_unit_extension_flag={b.u(1)}"]
 
 
-def answer(table, unit, prefix=prefix_body):
-    """The answer line for a whole unit; `prefix` reads a prefix unit's body."""
+def answer(table, unit, prefix=prefix_body, scratch=LIMIT):
+    """The answer line for a whole unit; `prefix` reads a prefix unit's body, and so many bytes are lent for bodies."""
     try:
-        return answered(table, unit, prefix)
+        return answered(table, unit, prefix, scratch)
     except Refused as r:
         return told(r)
 
@@ -342,21 +437,27 @@ def head(unit):
     return kind, ref_idc, unit[1:4]
 
 
-def answered(table, unit, prefix):
+def answered(table, unit, prefix, scratch):
     kind, ref_idc, extension = head(unit)
-    if kind not in (1, 5, 14, 20, 21):
+    if kind not in (1, 5, 7, 8, 14, 20, 21):
         return f"other type={kind}"
-    rest = unit[1 + len(extension) :]
+    if scratch < len(unit):
+        raise Refused(26, len(unit))
+    body = Body(unescaped(unit[1 + len(extension) :]))
+    if kind == 7:
+        return "sps " + sequence_set(body).word()
+    if kind == 8:
+        return "pps " + picture_set(body).word()
     words = [f"nal_ref_idc={ref_idc}"]
     if kind == 14:
         words += extension_words(extension)
         if ref_idc and extension[0] & 0x80:
-            words += prefix(Body(unescaped(rest)), extension)
+            words += prefix(body, extension)
         return " ".join(["prefix"] + words)
     words.append(f"nal_unit_type={kind}")
     if extension:
         words += extension_words(extension)
-    return " ".join(["slice"] + words + slice_header(Body(unescaped(rest)), table, ref_idc, kind, extension))
+    return " ".join(["slice"] + words + slice_header(body, table, ref_idc, kind, extension))
 
 
 def units(recording):
@@ -370,17 +471,36 @@ def units(recording):
         at = recording.find(b"\0\0\1", end)
 
 
-def listing(table, recording):
-    """The lines of a listing, the last one with the totals."""
-    count = refused = 0
+def walk(table, recording):
+    """Place, bytes and answer line of each unit, while the table is the one in force there: a set that is read is then put into it."""
     for place, unit in units(recording):
         line = answer(table, unit)
+        yield place, unit, line
+        if line.startswith(("sps ", "pps ")):
+            put(table, line[4:])
+
+
+def sets_in(recording):
+    """The words of the sets with which a walk comes to the end."""
+    table = {}
+    for _ in walk(table, recording):
+        pass
+    return [table[key].word() for key in sorted(table, reverse=True)]
+
+
+def listing(table, recording):
+    """The lines of a listing, the last one with the totals; the table is what the walk starts with, and stays as it is."""
+    count = refused = 0
+    table = dict(table)
+    for place, unit, line in walk(table, recording):
         said = dict(w.split("=") for w in line.split() if "=" in w)
         if line.startswith("slice"):
             qp = 26 + table["pps", int(said["pic_parameter_set_id"])].pic_init_qp_minus26 + int(said["slice_qp_delta"])
             line = f"slice type={said['slice_type']} frame={said['frame_num']} qp={qp}"
         elif line.startswith("prefix"):
             line = f"prefix ext={said['ext']}"
+        elif line.startswith(("sps ", "pps ")):
+            line = f"{line[:3]} id={line.split(':')[1]}"
         count += 1
         refused += line.startswith("refused")
         yield f"unit place={place} length={len(unit)} {line}"
@@ -428,7 +548,7 @@ def main(command, *words):
     elif command == "kinds":
         lines = kinds(open(words[0], "rb").read())
     else:
-        given = open(words[1]).read().split() if words[0] == "--table" else SAMPLE.split()
+        given = open(words[1]).read().split() if words[0] == "--table" else []
         lines = listing(table_of(given), open(words[-1], "rb").read())
     sys.stdout.writelines(line + "\n" for line in lines)
 

@@ -129,6 +129,11 @@ fn main() {
         bars.at_most("a look-up of a picture set, ns", sets::lookup(), 10.0);
         let name = "a put of a sequence set that 256 picture sets name, ns";
         bars.at_most(name, sets::put(), 2_000.0);
+        for (name, unit) in sets::units() {
+            bars.at_most(&format!("{name}, read, ns"), sets::read(unit), 2_000.0);
+        }
+        let took = sets::read(&sets::scaled());
+        println!("\na sequence set with 480 entries of scaling lists, read: {took:.0} ns");
     }
     std::process::exit(if bars.print() { 0 } else { 1 });
 }

@@ -48,12 +48,14 @@ impl Lent {
         raw::read_unit(table.as_raw(), unit, scratch, words, out);
     }
 
-    /// Every unit of a recording, its header read and its body unescaped. `each` sees the step, and what it left in what was lent.
+    /// Every unit of a recording, its header read and its body unescaped, by a copy of the table that the walk starts with. `each` sees the step, and what it left in
+    /// what was lent.
     fn steps(&mut self, table: &Table, recording: &[u8], mut each: impl FnMut(&WalkOut, &Lent)) {
         let (mut out, mut from) = (WalkOut::default(), 0);
+        let mut table = *table.as_raw();
         loop {
             let (scratch, words) = (&mut self.scratch, &mut self.words);
-            raw::walk(table.as_raw(), recording, from, scratch, words, &mut out);
+            raw::walk(&mut table, recording, from, scratch, words, &mut out);
             if out.step != A_UNIT {
                 return;
             }

@@ -3,15 +3,14 @@
 use std::fs;
 use std::path::Path;
 
-use tuzmarghil::{Table, LIMIT};
+use tuzmarghil::{reports, Table, LIMIT};
 
 use crate::random::Random;
 
-/// The rules' sample sets, as units and as table words.
+/// The rules' sample sets as units.
 const SAMPLE: [u8; 18] = [
     0, 0, 1, 0x67, 0x42, 0x00, 0x3E, 0xDA, 0x01, 0x8F, 0x90, 0, 0, 1, 0x68, 0xCE, 0x38, 0x80,
 ];
-const SAMPLE_TABLE: &str = "sps:0:1:0:0:4:2:0:0:1:99\npps:0:0:0:0:0:0:0:0:0:0:0:0:0\n";
 
 pub struct Recording {
     pub name: &'static str,
@@ -40,15 +39,6 @@ fn split(bytes: &[u8]) -> Vec<(usize, usize)> {
     units
 }
 
-/// A table out of the words that tests/parameter_sets.py writes.
-fn table(words: &str) -> Table {
-    let mut table = Table::new();
-    for word in words.split_whitespace() {
-        table.put_word(word).expect("a set that the table holds");
-    }
-    table
-}
-
 /// Bytes with escapes where the standard asks for them.
 fn escaped(body: impl Iterator<Item = u8>) -> Vec<u8> {
     let (mut out, mut zeros) = (Vec::new(), 0);
@@ -64,7 +54,7 @@ fn escaped(body: impl Iterator<Item = u8>) -> Vec<u8> {
 }
 
 impl Recording {
-    fn new(name: &'static str, bytes: Vec<u8>, words: &str) -> Recording {
+    fn new(name: &'static str, bytes: Vec<u8>) -> Recording {
         let units = split(&bytes);
         let mut sets = Vec::new();
         for &(place, length) in &units {
@@ -74,20 +64,22 @@ impl Recording {
                 sets.extend_from_slice(unit);
             }
         }
+        let mut table = Table::new();
+        let read = reports(&mut table, &sets).unwrap();
+        assert!(read.map(|r| r.unit).all(|unit| unit.is_ok()));
         Recording {
             name,
             bytes,
             units,
             sets,
-            table: table(words),
+            table,
         }
     }
 
     /// The recording that recordings.py left in a folder, if it did.
     pub fn load(folder: &Path, name: &'static str) -> Option<Recording> {
-        let words = fs::read_to_string(folder.join(name).with_extension("table")).ok()?;
         let bytes = fs::read(folder.join(name).with_extension("264")).ok()?;
-        Some(Recording::new(name, bytes, &words))
+        Some(Recording::new(name, bytes))
     }
 
     /// Slices of `length` bytes, each with the rules' header and random bytes without a zero.
@@ -97,12 +89,16 @@ impl Recording {
             bytes.extend_from_slice(&[0, 0, 1, 0x65, 0x88, 0x84, 0xA0]);
             bytes.extend((4..length).map(|_| random.next() as u8 | 1));
         }
-        Recording::new(name, bytes, SAMPLE_TABLE)
+        Recording::new(name, bytes)
     }
 
     /// The sample sets with slice groups, whose change rate is 11.
     pub fn with_slice_groups() -> Table {
-        table(&SAMPLE_TABLE.replace(":0\n", ":11\n"))
+        let mut table = Table::sample();
+        let mut picture = table.picture(0).unwrap();
+        picture.slice_group_change_rate = 11;
+        table.put_picture(0, picture).unwrap();
+        table
     }
 
     /// The slices' headers with bodies of 4,096 bytes of which a quarter are zeros, escaped as they must be.
@@ -123,9 +119,7 @@ impl Recording {
             bytes.extend_from_slice(&escaped(zeros));
             bytes.push(0x80);
         }
-        let mut made = Recording::new("zeros", bytes, "");
-        made.table = self.table.clone();
-        made
+        Recording::new("zeros", bytes)
     }
 
     /// A recording of about `size` bytes and the same mix: the whole over and over, or, where it is longer, units in even steps.

@@ -1,9 +1,11 @@
-//! Look-ups of picture sets through the exported function, on a table that is lent, and puts of a sequence set, which set the widths of picture sets anew.
+//! Look-ups of picture sets through the exported function, on a table that is lent, puts of a sequence set, which set the widths of picture sets anew, and sets that are
+//! read from units.
 
 use std::hint::black_box;
 use std::mem::MaybeUninit;
 
-use tuzmarghil::raw::{put_picture, put_sequence, Picture, PictureOut, Sequence, Table};
+use tuzmarghil::raw::{put_picture, put_sequence, read_unit};
+use tuzmarghil::raw::{Picture, PictureOut, ReadOut, Sequence, Table, Words};
 
 use crate::cpu::nanoseconds;
 
@@ -122,5 +124,66 @@ pub fn put() -> f64 {
     }
     // 4,000 ÷ 1 and ÷ 8, rounded up, and what they take in binary
     assert_eq!((table.pictures[8], table.pictures[7 * 9 + 8]), (12, 9));
+    best
+}
+
+/// Sets as units, as x264 writes them: main profile, and 4:4:4 with 10 bits.
+pub fn units() -> [(&'static str, &'static [u8]); 3] {
+    [
+        ("a sequence set", &MAIN),
+        ("a sequence set of 4:4:4, 10 bit", &HIGH),
+        ("a picture set", &PICTURE),
+    ]
+}
+
+const MAIN: [u8; 22] = [
+    0x67, 0x4D, 0x40, 0x0B, 0xEC, 0xA1, 0x62, 0x74, 0x20, 0, 0, 3, 0, 0x20, 0, 0, 6, 0x51, 0xE2,
+    0x85, 0x32, 0xC0,
+];
+const HIGH: [u8; 23] = [
+    0x67, 0xF4, 0, 0x0B, 0x90, 0xD9, 0xB2, 0x85, 0x89, 0xD0, 0x80, 0, 0, 3, 0, 0x80, 0, 0, 0x19,
+    0x47, 0x8A, 0x14, 0xCB,
+];
+const PICTURE: [u8; 5] = [0x68, 0xEB, 0xE3, 0xCB, 0x20];
+
+/// A sequence set in which all twelve scaling lists are there, each entry the one before it and 1, or less 1: profile 244, chroma format 3.
+pub fn scaled() -> Vec<u8> {
+    let mut bits = String::from("111101000000000000111110"); // 244, 0, 62
+    bits += concat!("1", "00100", "0", "1", "1", "0", "1"); // id 0, format 3, planes together, depths, bypass, a matrix
+    for list in 0..12 {
+        bits += "1";
+        for entry in 0..if list < 6 { 16 } else { 64 } {
+            bits += if entry % 2 == 0 { "010" } else { "011" };
+        }
+    }
+    bits += concat!("1", "011", "010", "0", "0001011", "0001001", "1", "1"); // order count type 2, 99 map units
+    let (mut unit, mut zeros) = (vec![0x67], 0);
+    for byte in bits.as_bytes().chunks(8) {
+        let set = byte.iter().enumerate();
+        let byte = set.fold(0, |b, (k, bit)| b | (bit - b'0') << (7 - k));
+        if zeros == 2 && byte < 4 {
+            unit.push(3);
+            zeros = 0;
+        }
+        zeros = if byte == 0 { zeros + 1 } else { 0 };
+        unit.push(byte);
+    }
+    unit
+}
+
+/// The nanoseconds that reading a set takes, best of several rounds.
+pub fn read(unit: &[u8]) -> f64 {
+    let (table, mut words, mut out) = (Table::default(), Words::default(), ReadOut::default());
+    let mut scratch = vec![0; unit.len()];
+    let rounds = 200_000u32;
+    let mut best = f64::MAX;
+    for _ in 0..7 {
+        let start = nanoseconds();
+        for _ in 0..rounds {
+            read_unit(&table, black_box(unit), &mut scratch, &mut words, &mut out);
+            assert!(matches!(black_box(&out).answer, 4 | 5));
+        }
+        best = best.min((nanoseconds() - start) / f64::from(rounds));
+    }
     best
 }

@@ -1,7 +1,7 @@
 #!/usr/bin/env python3
 """Makes the clips of this folder and of demo/ anew: a night sky of our own with a comet passing, by x264 and OpenH264 (Debian packages x264, libopenh264-dev).
 
-make.py [FOLDER]   writes NAME.264 and NAME.table for each clip
+make.py [FOLDER]   writes NAME.264 for each clip
 An encoder's output depends on its version (see README.md); the tests do not depend on these very bytes.
 """
 import pathlib
@@ -11,9 +11,6 @@ import sys
 import tempfile
 
 HERE = pathlib.Path(__file__).resolve().parent
-sys.path.insert(0, str(HERE.parent))
-
-from parameter_sets import words_of  # noqa: E402
 
 WIDTH, HEIGHT = 176, 144
 COMMON = ["--quiet", "--no-progress", "--threads", "1", "--demuxer", "y4m"]
@@ -72,8 +69,8 @@ def main():
         folder = pathlib.Path(sys.argv[1]) if len(sys.argv) > 1 else FOLDERS.get(name, HERE)
         clip = folder / f"{name}.264"
         by_x264(clip, *CLIPS[name]) if name in CLIPS else by_openh264(clip)
-        (folder / f"{name}.table").write_text("\n".join(words_of(clip.read_bytes())) + "\n")
         print(f"{clip}: {clip.stat().st_size:,} bytes")
 
 
-main()
+if __name__ == "__main__":
+    main()

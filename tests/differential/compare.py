@@ -12,10 +12,10 @@ import subprocess
 import tempfile
 
 from codes import escaped
-from rules import answer, base_marking, table_of, unescaped
+from rules import answer, base_marking, set_of, table_of, unescaped
 from sets import for_rust, held_by_rust
 
-AGREED = "agreed"
+AGREED, STOPPED = "agreed", "element of a set"
 BIT = re.compile(r" bit=\d+$")
 
 Case = collections.namedtuple("Case", "line said rust wanted group model")
@@ -26,6 +26,8 @@ def group_of(rust):
     said, _, document = rust.partition(" | doc: ")
     if said.startswith("ioerror InvalidData"):
         return "forbidden pattern", document or None
+    if said.startswith(("error ", "sps ", "pps ")):
+        return group_of_set(said, document)
     if not document:
         return AGREED, said
     numbers = BIT.sub("", said), BIT.sub("", document)
@@ -36,6 +38,36 @@ def group_of(rust):
     if numbers == ("refused 5 value=0", "refused 6 value=0"):
         return "zeros to the end", document
     return "unknown: " + rust, document
+
+
+# fields that the rules refuse with 28, and the Rust takes, or tests after it has read the whole set
+UNTESTED = re.compile(r" field=(chroma_format_idc|weighted_bipred_idc|pic_init_q[ps]_minus26|pic_size_in_map_units)$")
+# elements at which the Rust stops, and which the rules pass over, or allow more of
+OVER = re.compile(r"^error (BitDepthOutOfRange|Invalid(RunLengthMinus1|TopLeft|BottomRight|PicSizeInMapUnitsMinus1|SliceGroupChangeRateMinus1)) at=(\d+)$")
+
+
+def group_of_set(said, document):
+    """The same for a parameter set: the Rust has read it, or stops with an error of its own."""
+    if OVER.match(said):
+        return STOPPED, said
+    if not document:
+        return (AGREED if said[:3] in ("sps", "pps") else "unknown: " + said), said
+    if document.startswith("refused 28 "):
+        return ("field of a set" if UNTESTED.search(said) else "unknown: " + said), document
+    if said == "error FieldValueTooLarge:pic_size_in_map_units":
+        return "size by level", document
+    return "behind a set", document
+
+
+def by_model(case):
+    """The case; where the Rust stops at an element that is passed over, it cannot say what follows. The model does, unless it refuses something up to there."""
+    stopped = OVER.match(case.wanted)
+    if not stopped:
+        return case
+    bit = BIT.search(case.model)
+    if case.model.startswith("refused") and (not bit or int(bit[0][5:]) <= int(stopped[3])):
+        return case._replace(group="unknown: " + case.rust)
+    return case._replace(rust=f"{case.rust} | doc: {case.model}", wanted=case.model)
 
 
 def prefix_of_rust(b, extension):
@@ -69,6 +101,16 @@ def escaped_anew(unit):
     front = 4 if raw[0] & 31 in (14, 20, 21) else 1
     body = escaped(unescaped(raw[front:]))
     return (raw[:front] + body + (b"\3" if body.endswith(b"\0\0") else b"")).hex()
+
+
+def shown_of_set(answer):
+    """The small numbers among a set's fields, so that it shows which came."""
+    held = set_of(answer[4:])
+    for name in ("chroma_format_idc", "pic_order_cnt_type", "weighted_bipred_idc"):
+        if hasattr(held, name):
+            yield name, getattr(held, name)
+    if hasattr(held, "change_rate"):
+        yield "change_rate", "there" if held.change_rate else "absent"
 
 
 class Sides:
@@ -111,8 +153,8 @@ class Sides:
                 raise SystemExit(f"the Rust does not hold this table as its words say: {words}: {said}")
 
     def modelled(self, line, said):
-        """What the model answers, where the port refuses."""
-        if not said.startswith("refused"):
+        """What the model answers, where the port refuses or has read a parameter set."""
+        if not said.startswith(("refused", "sps", "pps")):
             return said
         words, _, unit = line.rpartition(" ")
         if words != self.table[0]:
@@ -131,7 +173,7 @@ class Sides:
             again = [out[i].line.rpartition(" ") for i in lost]
             for i, x in zip(lost, self.rust([f"{words} {escaped_anew(unit)}".lstrip() for words, _, unit in again])):
                 out[i] = out[i]._replace(rust=f"{out[i].rust} | escaped: {x}", wanted=group_of(x)[1])
-        return [by_standard(c) for c in out]
+        return [by_standard(by_model(c)) for c in out]
 
 
 class Tally:
@@ -149,6 +191,8 @@ class Tally:
         for c in cases:
             self.answers[key_of(c.said)] += 1
             self.groups[c.group] += 1
+            if c.said.startswith(("sps", "pps")):
+                self.fields.update(f"{name}={value}" for name, value in shown_of_set(c.said))
             if c.said.startswith(("slice", "prefix")):
                 self.fields.update(w.partition("=")[0] for w in c.said.split()[1:])
             if self.is_fault(c):

@@ -4,7 +4,7 @@ import pathlib
 import random
 
 from codes import escaped, packed
-from rules import table_of, units
+from rules import sets_in, table_of, units
 from headers import slice_pieces
 from sets import drawn_table
 
@@ -78,7 +78,7 @@ def clips():
 
     def lines():
         for clip in sorted(CLIPS.glob("*.264")):
-            words = " ".join(clip.with_suffix(".table").read_text().split())
+            words = " ".join(sets_in(clip.read_bytes()))
             for _, unit in units(clip.read_bytes()):
                 yield f"{words} {unit.hex()}"
                 start = unit[:FIRST]

@@ -3,6 +3,7 @@
 
 Needs neither the port nor the Rust. Prints, for each error, how many cases it took.
 """
+import itertools
 import pathlib
 import sys
 import types
@@ -19,7 +20,7 @@ EDITS = [
     ("the width rounded down", "2**width * rate < size + rate", "2**width * rate <= size"),
     ("the width's edge", "2**width * rate < size + rate", "2**width * rate <= size + rate"),
     ("the flag of an empty list dropped", "return words + flags", "return words + [f for f in flags if ':' in ' '.join(words)]"),
-    ("zeros of the extension count", "Body(unescaped(rest)), table", "Body(unescaped(unit[1:])[3 * (kind > 14):]), table"),
+    ("zeros of the extension count", "unescaped(unit[1 + len(extension) :])", "unescaped(unit[1:])[len(extension) :]"),
     ("escapes kept", 'data.replace(b"\\0\\0\\3", b"\\0\\0")', "data"),
     ("escapes dropped after one zero", 'data.replace(b"\\0\\0\\3", b"\\0\\0")', 'data.replace(b"\\0\\3", b"\\0")'),
     ("32 zeros and the end", "6 if len(self.bits) - self.at >= 32 else 5", "6 if len(self.bits) - self.at > 32 else 5"),
@@ -63,8 +64,8 @@ EDITS = [
     ("a prefix body of a view", "if ref_idc and extension[0] & 0x80", "if ref_idc"),
     ("4 with four bytes", "len(unit) < 4", "len(unit) < 5"),
     ("2 after 4", "    if unit[0] & 0x80:\n        raise Refused(2, 0)\n", ""),
-    ("a set out of range is put", "        if held.good():\n", "        if True:\n"),
-    ("the first set of an id stays", "            table[word[:3], held.id] = held", "            table.setdefault((word[:3], held.id), held)"),
+    ("a set out of range is put", "    if held.good():\n", "    if True:\n"),
+    ("the first set of an id stays", "        table[word[:3], held.id] = held", "        table.setdefault((word[:3], held.id), held)"),
     ("the place behind the field", "return Refused(number, value, self.field)", "return Refused(number, value, self.at)"),
     ("the place of a code's suffix", "self.taken(zeros)", "self.u(zeros)"),
     ("the place of 14 at the operand", "raise b.refused(14)", "raise Refused(14, 0, b.at)"),
@@ -74,13 +75,51 @@ EDITS = [
     ("the place of 22 at the last field", "raise Refused(22, 0, b.at)", "raise b.refused(22)"),
     ("the place of 22 a bit later", "raise Refused(22, 0, b.at)", "raise Refused(22, 0, b.at + 1)"),
     ("a place beside 4", "raise Refused(4, 0)", "raise Refused(4, 0, 0)"),
+    ("28 with the field's value", "raise self.refused(28)", "raise self.refused(28, value)"),
+    ("a profile without chroma format", "139, 134, 135)", "139, 134)"),
+    ("a profile with chroma format too many", "139, 134, 135)", "139, 134, 135, 77)"),
+    ("sequence set 32", "id = b.in_set(b.ue(), 0, 31)\n", "id = b.in_set(b.ue(), 0, 32)\n"),
+    ("chroma format 4", "chroma = b.in_set(b.ue(), 0, 3)", "chroma = b.in_set(b.ue(), 0, 4)"),
+    ("a colour plane flag of every format", "        if chroma == 3:\n            separate", "        if True:\n            separate"),
+    ("depth 15", "depth = b.in_set(b.ue(), 0, 6)", "depth = b.in_set(b.ue(), 0, 7)"),
+    ("the chroma depth bounded", "b.ue()  # bit_depth_chroma", "b.in_set(b.ue(), 0, 6)  # bit_depth_chroma"),
+    ("eight scaling lists of 4:4:4", "12 if chroma == 3 else 8", "8"),
+    ("five short scaling lists", "16 if i < 6 else 64", "16 if i < 5 else 64"),
+    ("deltas behind a scale of 0", "        if following != 0:\n", "        if True:\n"),
+    ("a scaling delta of 128", "b.in_set(b.se(), -128, 127)", "b.in_set(b.se(), -128, 128)"),
+    ("a scaling delta of -129", "b.in_set(b.se(), -128, 127)", "b.in_set(b.se(), -129, 127)"),
+    ("scales not modulo 256", "-128, 127)) % 256", "-128, 127))"),
+    ("frame_num of 17 bits", "4 + b.in_set(b.ue(), 0, 12)", "4 + b.in_set(b.ue(), 0, 13)"),
+    ("order count type 3", "order, lsb, always_zero = b.in_set(b.ue(), 0, 2)", "order, lsb, always_zero = b.in_set(b.ue(), 0, 3)"),
+    ("order counts of 17 bits", "lsb = b.in_set(b.ue(), 0, 12)", "lsb = b.in_set(b.ue(), 0, 13)"),
+    ("a cycle of 256", "b.in_set(b.ue(), 0, 255)):\n            b.se()", "b.in_set(b.ue(), 0, 256)):\n            b.se()"),
+    ("a cycle that is not passed over", "            b.se()  # offset_for_ref_frame", "            pass"),
+    ("the size without its ones", "(b.ue() + 1) * (b.ue() + 1)", "(b.ue() + 1) * b.ue()"),
+    ("the size's bound", "MAP_UNITS = 16_777_216", "MAP_UNITS = 16_777_215"),
+    ("picture set 256", "id, sps_id = b.in_set(b.ue(), 0, 255)", "id, sps_id = b.in_set(b.ue(), 0, 256)"),
+    ("a picture set of sequence set 32", "b.in_set(b.ue(), 0, 255), b.in_set(b.ue(), 0, 31)", "b.in_set(b.ue(), 0, 255), b.in_set(b.ue(), 0, 32)"),
+    ("nine slice groups", "groups = b.in_set(b.ue(), 0, 7)", "groups = b.in_set(b.ue(), 0, 8)"),
+    ("slice groups of type 7", "b.in_set(b.ue(), 0, 6) if groups", "b.in_set(b.ue(), 0, 7) if groups"),
+    ("a run too few", "for _ in range(groups + 1):", "for _ in range(groups):"),
+    ("a corner alone", "b.ue(), b.ue()  # top_left", "b.ue()  # top_left"),
+    ("no direction flag", "        b.u(1)  # slice_group_change_direction_flag\n", ""),
+    ("the change rate minus 1", "return 1 + b.in_set", "return b.in_set"),
+    ("a group id too few", "b.passed(b.ue() + 1, ", "b.passed(b.ue(), "),
+    ("group ids of 3 bits", "groups.bit_length())", "3)"),
+    ("the place of a group id at the first", "self.field = self.at + n * min(count, whole)", "self.field = self.at"),
+    ("active 32 in a set", "active = b.in_set(b.ue(), 0, 31)", "active = b.in_set(b.ue(), 0, 32)"),
+    ("weighted_bipred_idc 3", "b.in_set(b.u(2), 0, 2)", "b.in_set(b.u(2), 0, 3)"),
+    ("pic_init_qp_minus26 -63", "b.in_set(b.se(), -62, 25)", "b.in_set(b.se(), -63, 25)"),
+    ("pic_init_qs_minus26 26", "b.in_set(b.se(), -26, 25)", "b.in_set(b.se(), -26, 26)"),
+    ("the chroma offset bounded", "b.se()  # chroma_qp_index_offset", "b.in_set(b.se(), -12, 12)  # chroma_qp_index_offset"),
+    ("the last two flags exchanged", "deblocking, _, redundant = b.u(1)", "deblocking, redundant, _ = b.u(1)"),
 ]
 
 
 def main(count):
     source = (TESTS / "rules.py").read_text()
     cases = []
-    for line in generate.lines(77, count):
+    for line in itertools.chain(generate.lines(77, count), generate.sets(77, count)):
         *words, unit = line.split()
         unit = b"" if unit == "-" else bytes.fromhex(unit)
         cases.append((words, unit))
@@ -94,7 +133,7 @@ def main(count):
         at = next((i for i, (a, b) in enumerate(zip(right, answers(module, cases))) if a != b), None)
         missed += at is None
         print(f"mutants: {name}: {'NOT NOTICED' if at is None else f'case {at + 1:,}'}")
-    print(f"mutants: {len(EDITS) - missed} of {len(EDITS)} errors noticed in {count:,} cases")
+    print(f"mutants: {len(EDITS) - missed} of {len(EDITS)} errors noticed in {count:,} cases and {count:,} sets")
     return missed
 
 

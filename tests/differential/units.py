@@ -1,6 +1,7 @@
 """Whole units: well formed ones from pieces, and damaged ones."""
 from codes import escaped, packed, ue
 from headers import OFF, prefix_pieces, slice_pieces
+from set_units import long_set, set_pieces
 
 SLICES = (1, 5, 20, 21)
 
@@ -107,10 +108,33 @@ def other_unit(r):
     return bytes([r.getrandbits(8)]) + r.randbytes(r.randint(0, 12))
 
 
+def torn(r, pieces):
+    """The elements as they are, or damaged."""
+    y = r.random()
+    if y < 0.06:
+        return zero_run(r, pieces)
+    if y < 0.12:
+        return torn_pieces(r, pieces)
+    if y < 0.18:
+        return soup(r, pieces)
+    return pieces
+
+
+def drawn_set(r):
+    """A unit of type 7 or 8."""
+    if r.random() < 0.0002:
+        return long_set(r)
+    first, pieces = set_pieces(r)
+    unit = first + escaped(packed("".join(torn(r, pieces))))
+    return damaged(r, unit) if r.random() < 0.2 else unit
+
+
 def drawn_unit(r, table):
     x = r.random()
     if x < 0.04:
         return other_unit(r)
+    if x > 0.94:
+        return drawn_set(r)
     ref_idc = r.choice((0, 1, 2, 3))
     off = r.choice(OFF) if r.random() < 0.45 else None
     if x < 0.12:
@@ -121,14 +145,7 @@ def drawn_unit(r, table):
         kind = r.choice((1, 1, 1, 5, 5, 20, 21))
         ext = extension(r) if kind >= 20 else b""
         pieces = slice_pieces(r, table, kind, ref_idc, ext, off)
-    y = r.random()
-    if y < 0.06:
-        pieces = zero_run(r, pieces)
-    elif y < 0.12:
-        pieces = torn_pieces(r, pieces)
-    elif y < 0.18:
-        pieces = soup(r, pieces)
-    unit = bytes([ref_idc << 5 | kind]) + ext + escaped(packed("".join(pieces) + tail(r)))
+    unit = bytes([ref_idc << 5 | kind]) + ext + escaped(packed("".join(torn(r, pieces)) + tail(r)))
     z = r.random()
     if z < 0.0001:
         return grown(r, unit)

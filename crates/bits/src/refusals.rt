@@ -57,6 +57,8 @@ pub const BUFFER_TOO_SHORT: u8 = 26;
 
 pub const TOO_LARGE: u8 = 27;
 
+pub const SET_FIELD: u8 = 28;
+
 pub const NOT_ITS_HEAD: u8 = 34;
 
 // The size limit of a unit or a recording, in bytes.

@@ -23,6 +23,8 @@ told-line : (pictures : List ℕ) (place size : ℕ) (unit numbers : List ℕ) (
 unfolding lentLine told heard
 told-line pictures place size unit numbers signed (ShortAnswer.Slice n) = refl
 told-line pictures place size unit numbers signed (ShortAnswer.«Prefix» p) = refl
+told-line pictures place size unit numbers signed (ShortAnswer.Sequence v) = refl
+told-line pictures place size unit numbers signed (ShortAnswer.Picture v) = refl
 told-line pictures place size unit numbers signed (ShortAnswer.Other t) = refl
 told-line pictures place size unit numbers signed (ShortAnswer.Refused r) = refl
 

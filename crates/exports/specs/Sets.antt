@@ -4,7 +4,7 @@ use lib.IntN.{pos}
 use Rattle.table.specs.declared.words.FoundSequence.{FoundSequence}
 use Rattle.table.specs.declared.words.FoundPicture.{FoundPicture}
 use Rattle.table.specs.declared.words.Changed.{Changed}
-use Rattle.syntax.specs.Context.{noPicture, noSequence}
+use Rattle.syntax.specs.Context.{noSequence, noPicture}
 use Rattle.exports.specs.declared.sets.SequenceOut.{SequenceOut}
 use Rattle.exports.specs.declared.sets.PictureOut.{PictureOut}
 use Rattle.exports.specs.declared.sets.ChangedOut.{ChangedOut}

@@ -1,10 +1,14 @@
 // The lines of a listing, for a host that walks by itself: each is written to the front of a lent buffer of 128 bytes, and the answer is its length.
 use crate::heads::HeadOut;
 use crate::heads::hear_head;
+use crate::sets::no_picture;
+use crate::sets::no_sequence;
 use bits::refusals::Refusal;
 use lines::kinds::head_line;
 use lines::line::end_line;
 use lines::line::unit_line;
+use parameter_sets::picture::PictureSet;
+use parameter_sets::sequence::SequenceSet;
 use unit::answer::no_prefix;
 use unit::into::ShortAnswer;
 ghost use mathlib.Core.Path.{_≡_};
@@ -25,6 +29,18 @@ fn hear(answer: u32, number: u8, value: i64, has_bit: bool, bit: usize) -> Short
     }
     if answer == 2 {
         return ShortAnswer::Prefix(no_prefix());
+    }
+    if answer == 4 {
+        return ShortAnswer::Sequence(SequenceSet {
+            seq_parameter_set_id: number as u32,
+            sequence: no_sequence(),
+        });
+    }
+    if answer == 5 {
+        return ShortAnswer::Picture(PictureSet {
+            pic_parameter_set_id: number as u32,
+            picture: no_picture(),
+        });
     }
     ShortAnswer::Refused(Refusal {
         number,

@@ -11,7 +11,7 @@ use table::words::put_sequence_in;
 use table::words::sequence_in;
 ghost use mathlib.Core.Path.{_≡_};
 ghost use Rattle.table.specs.Tables.{sequenceIn, sequenceAt, pictureIn, pictureAt, sequencePut, widthsAfter, picturePut, putSequence, putPicture};
-ghost use Rattle.syntax.specs.Context.{noPicture, noSequence};
+ghost use Rattle.syntax.specs.Context.{noSequence, noPicture};
 ghost use Rattle.exports.specs.Sets.{sequenceOut, pictureOut, changedOut};
 
 // A sequence set, or none: then `there` is false and every field zero.
@@ -50,7 +50,7 @@ fn sequence_out(t: &[u32; 224], id: u32) -> SequenceOut
     }
 }
 
-fn no_sequence() -> Sequence
+pub(crate) fn no_sequence() -> Sequence
     ensures { λ r. ⌜ r ≡ noSequence ⌝ }
 {
     Sequence {
@@ -81,7 +81,7 @@ fn picture_out(t: &[u32; 2304], id: u32) -> PictureOut
     }
 }
 
-fn no_picture() -> Picture
+pub(crate) fn no_picture() -> Picture
     ensures { λ r. ⌜ r ≡ noPicture ⌝ }
 {
     Picture {

@@ -1,6 +1,10 @@
 // A unit's body.
+use crate::sets::no_picture;
+use crate::sets::no_sequence;
 use bits::refusals::Refusal;
 use lists::list_words::PrefixShort;
+use table::sets::Picture;
+use table::sets::Sequence;
 use unit::answer::no_prefix;
 use unit::head::UnitHead;
 use unit::into::ShortAnswer;
@@ -14,9 +18,9 @@ ghost use Rattle.exports.specs.Units.{told, unitOut};
 // What reading a unit answers. What the answer does not speak of is zero.
 #[repr(C)]
 pub struct ReadOut {
-    // 0: a unit of another type; 1: a slice; 2: a prefix unit; 3: refused
+    // 0: a unit of another type; 1: a slice; 2: a prefix unit; 3: refused; 4: a sequence set; 5: a picture set
     pub answer: u32,
-    // the type of another unit, or the refusal's number
+    // the type of another unit, the refusal's number, or the set's id
     pub number: u32,
     // the refusal's value
     pub value: i64,
@@ -27,6 +31,9 @@ pub struct ReadOut {
     pub bits: usize,
     // its list stands in words that the caller lends, as a slice's header does
     pub prefix: PrefixShort,
+    // a parameter set
+    pub sequence: Sequence,
+    pub picture: Picture,
 }
 
 pub(crate) fn tell(a: ShortAnswer) -> ReadOut
@@ -41,6 +48,8 @@ pub(crate) fn tell(a: ShortAnswer) -> ReadOut
             bit: 0,
             bits,
             prefix: no_prefix(),
+            sequence: no_sequence(),
+            picture: no_picture(),
         },
         ShortAnswer::Prefix(prefix) => ReadOut {
             answer: 2,
@@ -50,7 +59,37 @@ pub(crate) fn tell(a: ShortAnswer) -> ReadOut
             bit: 0,
             bits: 0,
             prefix,
+            sequence: no_sequence(),
+            picture: no_picture(),
         },
+        ShortAnswer::Sequence(v) => {
+            let sequence = v.sequence;
+            ReadOut {
+                answer: 4,
+                number: v.seq_parameter_set_id,
+                value: 0,
+                has_bit: false,
+                bit: 0,
+                bits: 0,
+                prefix: no_prefix(),
+                sequence,
+                picture: no_picture(),
+            }
+        }
+        ShortAnswer::Picture(v) => {
+            let picture = v.picture;
+            ReadOut {
+                answer: 5,
+                number: v.pic_parameter_set_id,
+                value: 0,
+                has_bit: false,
+                bit: 0,
+                bits: 0,
+                prefix: no_prefix(),
+                sequence: no_sequence(),
+                picture,
+            }
+        }
         ShortAnswer::Other(id) => ReadOut {
             answer: 0,
             number: id as u32,
@@ -59,6 +98,8 @@ pub(crate) fn tell(a: ShortAnswer) -> ReadOut
             bit: 0,
             bits: 0,
             prefix: no_prefix(),
+            sequence: no_sequence(),
+            picture: no_picture(),
         },
         ShortAnswer::Refused(why) => ReadOut {
             answer: 3,
@@ -68,6 +109,8 @@ pub(crate) fn tell(a: ShortAnswer) -> ReadOut
             bit: why.bit,
             bits: 0,
             prefix: no_prefix(),
+            sequence: no_sequence(),
+            picture: no_picture(),
         },
     }
 }

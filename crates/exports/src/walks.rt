@@ -97,11 +97,12 @@ pub extern "C" fn tuz_next_unit(recording: &[u8], from: usize) -> StepOut
     come(next_step(recording, from))
 }
 
-// One step of the walk from a place on, by the sets in a table's two arrays. Scratch needs as many bytes as the longest unit has. Words are written as by `tuz_body`; where there is no unit, none is.
+// One step of the walk from a place on, by the sets in a table's two arrays. Scratch needs as many bytes as the longest unit has. A set that is read goes into the
+// arrays. Words are written as by `tuz_body`; where there is no unit, none is.
 #[no_mangle]
-pub extern "C" fn tuz_walk<'a>(
-    sequences: &'a [u32; 224],
-    pictures: &'a [u32; 2304],
+pub extern "C" fn tuz_walk(
+    sequences: &mut [u32; 224],
+    pictures: &mut [u32; 2304],
     recording: &[u8],
     from: usize,
     scratch: &mut [u8],
@@ -115,6 +116,7 @@ pub extern "C" fn tuz_walk<'a>(
     base: &mut [u32; 198],
 ) -> WalkOut
     ensures { λ r. ⌜ (r ≡ walkOut (walked (tableOf (now (sequences .entry)) (now (pictures .entry))) (now (recording .entry)) from (now (scratch .entry)) .walked)) × (now (scratch .exit) ≡ walked (tableOf (now (sequences .entry)) (now (pictures .entry))) (now (recording .entry)) from (now (scratch .entry)) .left) ⌝ }
+    ensures table { λ r. ⌜ tableOf (now (sequences .exit)) (now (pictures .exit)) ≡ walked (tableOf (now (sequences .entry)) (now (pictures .entry))) (now (recording .entry)) from (now (scratch .entry)) .table ⌝ }
     ensures words { λ r. ⌜ lentWords numbers signed l0 l1 marking w0 w1 base .exit ≡ wordsAfter (walked (tableOf (now (sequences .entry)) (now (pictures .entry))) (now (recording .entry)) from (now (scratch .entry)) .walked .read) (lentWords numbers signed l0 l1 marking w0 w1 base .entry) ⌝ }
 {
     let w = walk_into(

@@ -15,6 +15,8 @@ module _ (pictures unit : List ℕ) (u : UnitRead) (b : Lent) where
   unfolding numbersOf signedOf
   same-text (UnitAnswer.Slice bits) = refl
   same-text UnitAnswer.«Prefix» = refl
+  same-text (UnitAnswer.Sequence v) = refl
+  same-text (UnitAnswer.Picture v) = refl
   same-text (UnitAnswer.Other id) = refl
   same-text (UnitAnswer.Refused r) = refl
 

@@ -34,6 +34,14 @@ sliceText slice-type frame-num qp = field " slice type=" slice-type ++ field " f
 abbrev pub prefixText : Bool → List ℕ
 prefixText svc = pick svc (words " prefix ext=svc") (words " prefix ext=mvc")
 
+-- a parameter set, by its id
+
+abbrev pub sequenceText : ℕ → List ℕ
+sequenceText id = field " sps id=" id
+
+abbrev pub pictureText : ℕ → List ℕ
+pictureText id = field " pps id=" id
+
 abbrev pub otherText : ℕ → List ℕ
 otherText id = field " other type=" id
 
@@ -48,6 +56,8 @@ abbrev pub textOf : List ℕ → List ℕ → SliceHeader → UnitAnswer → Lis
 textOf pictures unit h (UnitAnswer.Slice bits) =
     sliceText (h .«slice_type») (h .frame .«frame_num») (finalQp pictures (h .«pic_parameter_set_id») (h .quantiser .«slice_qp_delta»))
 textOf pictures unit h UnitAnswer.«Prefix» = prefixText (isSvc unit)
+textOf pictures unit h (UnitAnswer.Sequence v) = sequenceText (v .«seq_parameter_set_id»)
+textOf pictures unit h (UnitAnswer.Picture v) = pictureText (v .«pic_parameter_set_id»)
 textOf pictures unit h (UnitAnswer.Other id) = otherText id
 textOf pictures unit h (UnitAnswer.Refused r) = refusedText r
 
@@ -56,6 +66,8 @@ abbrev pub lentText : List ℕ → List ℕ → List ℕ → List ℤ → ShortA
 lentText pictures unit numbers signed (ShortAnswer.Slice bits) =
     sliceText (getD numbers 1 0) (getD numbers 6 0) (finalQp pictures (getD numbers 2 0) (getD signed 3 (pos 0)))
 lentText pictures unit numbers signed (ShortAnswer.«Prefix» p) = prefixText (isSvc unit)
+lentText pictures unit numbers signed (ShortAnswer.Sequence v) = sequenceText (v .«seq_parameter_set_id»)
+lentText pictures unit numbers signed (ShortAnswer.Picture v) = pictureText (v .«pic_parameter_set_id»)
 lentText pictures unit numbers signed (ShortAnswer.Other id) = otherText id
 lentText pictures unit numbers signed (ShortAnswer.Refused r) = refusedText r
 

@@ -83,6 +83,8 @@ fn answer_words(
             slice_words(d, at, numbers[1], numbers[6], qp)
         }
         ShortAnswer::Prefix(_) => prefix_words(d, at, is_svc(unit)),
+        ShortAnswer::Sequence(v) => field(d, at, b" sps id=", v.seq_parameter_set_id as u64),
+        ShortAnswer::Picture(v) => field(d, at, b" pps id=", v.pic_parameter_set_id as u64),
         ShortAnswer::Other(id) => field(d, at, b" other type=", id as u64),
         ShortAnswer::Refused(r) => refused_words(d, at, r),
     }

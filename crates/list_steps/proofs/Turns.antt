@@ -15,7 +15,7 @@ use Rattle.unit.specs.Into.{short, shortAnswer, wordsAfter}
 use Rattle.walk.specs.declared.search.Found.{Found}
 use Rattle.walk.specs.declared.walk.Step.{Step}
 use Rattle.walk.specs.Walk.{nextUnit}
-use Rattle.walk.specs.Walked.{WalkOut, nothing, walked}
+use Rattle.walk.specs.Walked.{WalkOut, tableAfter, nothing, walked}
 use Rattle.walk.proofs.Steps.{at-end, at-unit}
 use Rattle.walk.proofs.Chain.{Went, went}
 use Rattle.lines.specs.Lines.{endLine, tooLongLine, unitLine, lentLine, Written}
@@ -29,9 +29,9 @@ use Rattle.list_steps.specs.Private.{isRefusedShort, Ends, blank, Met}
 pub one-more : (n : ℕ) → n < most → oneMore n ≡ suc n
 one-more n h = rw (lt-ltb n most h)
 
--- a last line is one with any scratch
-pub ends : {text line line′ : List ℕ} {st : State} {r : Listed} → Ends text st line r line′ → (scratch : List ℕ) → Stepped (last text st scratch) line r scratch line′
-ends e scratch = record { state = e .state; more = e .more; text = e .text; left = refl }
+-- a last line is one with any scratch and table
+pub ends : {text line line′ : List ℕ} {st : State} {r : Listed} → Ends text st line r line′ → (scratch : List ℕ) (t : Table) → Stepped (last text st scratch t) line r scratch line′ t
+ends e scratch t = record { state = e .state; more = e .more; text = e .text; left = refl; table = refl }
 
 -- where a step of the walk comes to a unit, that lies ahead and within the recording
 abbrev stepOf : WalkOut → Step
@@ -52,7 +52,20 @@ module _ (t : Table) (s : List ℕ) (from : ℕ) (scratch : List ℕ) (small : l
           let z : _≡_ {A = ℕ} 0 1 = cc in
           absurd (omega arith)
 
-  pub inside : {r : Next} {z : List ℕ} {p n m : ℕ} → Met (walked t s from scratch) r z → r .step ≡ Step.Unit p n m → p + n ≤ length s
+  -- the table that a step to a unit leaves is that after the unit
+  pub table-after : (p n m : ℕ) → walked t s from scratch .walked .step ≡ Step.Unit p n m
+      → tableAfter t (walked t s from scratch .walked .read .answer) ≡ walked t s from scratch .table
+  unfolding nothing
+  table-after p n m e = go (nextUnit s from) refl
+    where
+      go : (f : Found) → nextUnit s from ≡ f → tableAfter t (walked t s from scratch .walked .read .answer) ≡ walked t s from scratch .table
+      go (Found.At p′ n′ m′) d = rw (at-unit t s from scratch (omega arith) d)
+      go Found.End d =
+          let q : Step.End ≡ Step.Unit p n m = sym (ap stepOf (at-end t s from scratch (omega arith) d)) ∙ e in
+          let z : _≡_ {A = ℕ} 0 1 = cc in
+          absurd (omega arith)
+
+  pub inside : {r : Next} {z : List ℕ} {v : Table} {p n m : ℕ} → Met (walked t s from scratch) r z v → r .step ≡ Step.Unit p n m → p + n ≤ length s
   inside {p = p} {n = n} {m = m} e g = let w = ahead p n m (sym (e .step) ∙ g) in omega (arith, w .inside, w .within)
 
 -- an answer without its records is a refusal where the answer is
@@ -63,43 +76,47 @@ refused-short u = go (u .answer)
     go : (a : UnitAnswer) → isRefusedShort (short a u) ≡ isRefused a
     go (UnitAnswer.Slice bits) = refl
     go UnitAnswer.«Prefix» = refl
+    go (UnitAnswer.Sequence v) = refl
+    go (UnitAnswer.Picture v) = refl
     go (UnitAnswer.Other id) = refl
     go (UnitAnswer.Refused r) = refl
 
 module _ (t : Table) (s : List ℕ) (st : State) (scratch : List ℕ) where
-  pub turn-long : most < length s → turn t s st scratch ≡ last tooLongLine st scratch
+  pub turn-long : most < length s → turn t s st scratch ≡ last tooLongLine st scratch t
   unfolding turn
   turn-long h = rw (lt-leb (length s) most h)
 
-  -- by where the walk came to, and what it left in scratch
-  pub turn-by : length s ≤ most → {z : List ℕ} (k : Step) → z ≡ walked t s (st .from) scratch .left → walked t s (st .from) scratch .walked .step ≡ k
-      → turn t s st scratch ≡ lineAfter (t .pictures) s st (walked t s (st .from) scratch .walked .read) z k
+  -- by where the walk came to, and what it left in scratch and table
+  pub turn-by : length s ≤ most → {z : List ℕ} {v : Table} (k : Step) → z ≡ walked t s (st .from) scratch .left → v ≡ walked t s (st .from) scratch .table
+      → walked t s (st .from) scratch .walked .step ≡ k → turn t s st scratch ≡ lineAfter s st (walked t s (st .from) scratch .walked .read) z v k
   unfolding turn
-  turn-by h {z} k f g =
+  turn-by h {z} {v} k f d g =
       let o = walked t s (st .from) scratch in
-      rw (le-leb (length s) most h) (ap₂ (λ (z : List ℕ) (k : Step). lineAfter (t .pictures) s st (o .walked .read) z k) (sym f) g)
+      rw (le-leb (length s) most h)
+      (ap₂ (λ (z : List ℕ) (v : Table). lineAfter s st (o .walked .read) z v (o .walked .step)) (sym f) (sym d) ∙ ap (λ (k : Step). lineAfter s st (o .walked .read) z v k) g)
 
   -- what is lent is s[p .. p + n]
-  pub unit-stepped : length s ≤ most → {r : Next} {z : List ℕ} {p n m : ℕ} → Met (walked t s (st .from) scratch) r z → r .step ≡ Step.Unit p n m
+  pub unit-stepped : length s ≤ most → {r : Next} {z : List ℕ} {v : Table} {p n m : ℕ} → Met (walked t s (st .from) scratch) r z v → r .step ≡ Step.Unit p n m
       → {line line′ : List ℕ} {length′ : ℕ} {st′ : State}
-      → Written (lentLine (t .pictures) p n (bytesAt s p (p + n - p)) (r .answer) (r .numbers) (r .signed)) line length′ line′
+      → Written (lentLine (v .pictures) p n (bytesAt s p (p + n - p)) (r .answer) (r .numbers) (r .signed)) line length′ line′
       → st′ ≡ counted st m (isRefusedShort (r .answer))
-      → Stepped (turn t s st scratch) line (record { state = st′; length = length′; more = true }) z line′
-  unit-stepped h {r} {z} {p} {n} {m} e g {line} {line′} {length′} {st′} w c =
+      → Stepped (turn t s st scratch) line (record { state = st′; length = length′; more = true }) z line′ v
+  unit-stepped h {r} {z} {v} {p} {n} {m} e g {line} {line′} {length′} {st′} w c =
       let u = walked t s (st .from) scratch .walked .read in
       let k : p + n - p ≡ n = omega arith in
       let i : p + n ≤ length s = inside t s (st .from) scratch h e g in
       let l : n ≡ length (bytesAt s p n) = simp (length-take, length-drop) (omega arith) in
-      let d : lentLine (t .pictures) p n (bytesAt s p (p + n - p)) (r .answer) (r .numbers) (r .signed) ≡ unitLine (t .pictures) p (bytesAt s p n) u =
+      let d : lentLine (v .pictures) p n (bytesAt s p (p + n - p)) (r .answer) (r .numbers) (r .signed) ≡ unitLine (v .pictures) p (bytesAt s p n) u =
       rw (k, e .answered, e .numbers, e .signed)
-      (ap (λ (j : ℕ). lentLine (t .pictures) p j (bytesAt s p n) (shortAnswer u) (wordsAfter u blank .header .numbers) (wordsAfter u blank .header .signed)) l
-      ∙ lent-line (t .pictures) (bytesAt s p n) u blank p) in
-      rw (turn-by h (Step.Unit p n m) (e .left) (sym (e .step) ∙ g))
+      (ap (λ (j : ℕ). lentLine (v .pictures) p j (bytesAt s p n) (shortAnswer u) (wordsAfter u blank .header .numbers) (wordsAfter u blank .header .signed)) l
+      ∙ lent-line (v .pictures) (bytesAt s p n) u blank p) in
+      rw (turn-by h (Step.Unit p n m) (e .left) (e .table) (sym (e .step) ∙ g))
       (record {
         state = c ∙ ap (counted st m) (ap isRefusedShort (e .answered) ∙ refused-short u);
         more = refl;
         text = subst (λ (x : List ℕ). Written x line length′ line′) d w;
         left = refl;
+        table = refl;
       })
 
   -- a step that another follows goes on ahead, within the recording
@@ -110,9 +127,9 @@ module _ (t : Table) (s : List ℕ) (st : State) (scratch : List ℕ) where
           → (st .from < turn t s st scratch .state .from) × (turn t s st scratch .state .from ≤ length s)
       by h (Step.Unit p n m) g =
           let w = ahead t s (st .from) scratch h p n m g in
-          rw (turn-by h (Step.Unit p n m) refl g) (w .on, w .within)
-      by h Step.End g = absurd (true≢false (sym e ∙ ap (λ (o : Turn). o .more) (turn-by h Step.End refl g)))
-      by h (Step.Refused r) g = absurd (true≢false (sym e ∙ ap (λ (o : Turn). o .more) (turn-by h (Step.Refused r) refl g)))
+          rw (turn-by h (Step.Unit p n m) refl refl g) (w .on, w .within)
+      by h Step.End g = absurd (true≢false (sym e ∙ ap (λ (o : Turn). o .more) (turn-by h Step.End refl refl g)))
+      by h (Step.Refused r) g = absurd (true≢false (sym e ∙ ap (λ (o : Turn). o .more) (turn-by h (Step.Refused r) refl refl g)))
 
       size : (b : Bool) → leb (length s) most ≡ b → (st .from < turn t s st scratch .state .from) × (turn t s st scratch .state .from ≤ length s)
       size true p = by (leb-true (length s) most p) (walked t s (st .from) scratch .walked .step) refl

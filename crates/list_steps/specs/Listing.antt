@@ -11,7 +11,7 @@ use Rattle.unit.specs.declared.answer.UnitAnswer.{UnitAnswer}
 use Rattle.unit.specs.declared.answer.UnitRead.{UnitRead}
 use Rattle.walk.specs.declared.walk.Step.{Step}
 use Rattle.walk.specs.Units.{Report}
-use Rattle.walk.specs.Walked.{WalkOut, walked}
+use Rattle.walk.specs.Walked.{WalkOut, tableAfter, walked}
 use Rattle.walk.specs.Reports.{sift, reports}
 use Rattle.lines.specs.Lines.{unitLine, endLine, tooLongLine, Written}
 use Rattle.list_steps.specs.declared.step.State.{State}
@@ -27,14 +27,17 @@ bytesAt s place n = take n (drop place s)
 
 -- ---- the listing
 
--- a line for each report of a recording's units; `pictures` is the table's array of picture sets
-abbrev pub unitLines : List ℕ → List ℕ → List (Report UnitRead) → List ℕ
-unitLines pictures s [] = []
-unitLines pictures s (u ∷ us) = unitLine pictures (u .place) (bytesAt s (u .place) (u .size)) (u .read) ++ unitLines pictures s us
+-- a line for each report of a recording's units, by the table in force there; t is the table before them
+abbrev pub unitLines : Table → List ℕ → List (Report UnitRead) → List ℕ
+unitLines t s [] = []
+unitLines t s (u ∷ us) =
+    unitLine (tableAfter t (u .read .answer) .pictures) (u .place) (bytesAt s (u .place) (u .size)) (u .read) ++ unitLines (tableAfter t (u .read .answer)) s us
 
 abbrev pub isRefused : UnitAnswer → Bool
 isRefused (UnitAnswer.Slice bits) = false
 isRefused UnitAnswer.«Prefix» = false
+isRefused (UnitAnswer.Sequence v) = false
+isRefused (UnitAnswer.Picture v) = false
 isRefused (UnitAnswer.Other id) = false
 isRefused (UnitAnswer.Refused r) = true
 
@@ -43,11 +46,11 @@ abbrev pub refusedOnes : List (Report UnitRead) → List (Report UnitRead)
 refusedOnes us = sift (λ (u : Report UnitRead). isRefused (u .read .answer)) us
 
 -- all units' lines, then the totals: how many reports there are, and how many of refused units
-abbrev pub wholeText : List ℕ → List ℕ → List (Report UnitRead) → List ℕ
-wholeText pictures s us = unitLines pictures s us ++ endLine (length us) (length (refusedOnes us))
+abbrev pub wholeText : Table → List ℕ → List (Report UnitRead) → List ℕ
+wholeText t s us = unitLines t s us ++ endLine (length us) (length (refusedOnes us))
 
 unfoldable pub listing : Table → List ℕ → List ℕ → List ℕ
-listing t scratch s = pick (leb (length s) most) (wholeText (t .pictures) s (reports t scratch s)) tooLongLine
+listing t scratch s = pick (leb (length s) most) (wholeText t s (reports t scratch s)) tooLongLine
 
 -- ---- one step
 
@@ -62,42 +65,44 @@ oneMore n = pick (ltb n most) (suc n) n
 abbrev pub counted : State → ℕ → Bool → State
 counted st next refused = record { from = next; units = oneMore (st .units); refused = pick refused (oneMore (st .refused)) (st .refused) }
 
--- a line's text, the state after it, whether another follows, and scratch at exit
+-- a line's text, the state after it, whether another follows, and scratch and table at exit
 pub record Turn : Type 0 where
   pub text : List ℕ
   pub state : State
   pub more : Bool
   pub left : List ℕ
+  pub table : Table
 
 -- the last line
-abbrev pub last : List ℕ → State → List ℕ → Turn
-last text st scratch = record { text = text; state = st; more = false; left = scratch }
+abbrev pub last : List ℕ → State → List ℕ → Table → Turn
+last text st scratch t = record { text = text; state = st; more = false; left = scratch; table = t }
 
--- a unit's line and its count; the totals where the walk came to no unit
-abbrev pub lineAfter : List ℕ → List ℕ → State → UnitRead → List ℕ → Step → Turn
-lineAfter pictures s st read scratch (Step.Unit place n next) =
-    record { text = unitLine pictures place (bytesAt s place n) read; state = counted st next (isRefused (read .answer)); more = true; left = scratch }
-lineAfter pictures s st read scratch Step.End = last (endLine (st .units) (st .refused)) st scratch
-lineAfter pictures s st read scratch (Step.Refused r) = last (endLine (st .units) (st .refused)) st scratch
+-- a unit's line and its count, by the table that the walk left; the totals where it came to no unit
+abbrev pub lineAfter : List ℕ → State → UnitRead → List ℕ → Table → Step → Turn
+lineAfter s st read scratch t (Step.Unit place n next) =
+    record { text = unitLine (t .pictures) place (bytesAt s place n) read; state = counted st next (isRefused (read .answer)); more = true; left = scratch; table = t }
+lineAfter s st read scratch t Step.End = last (endLine (st .units) (st .refused)) st scratch t
+lineAfter s st read scratch t (Step.Refused r) = last (endLine (st .units) (st .refused)) st scratch t
 
-abbrev pub afterWalk : List ℕ → List ℕ → State → WalkOut → Turn
-afterWalk pictures s st w = lineAfter pictures s st (w .walked .read) (w .left) (w .walked .step)
+abbrev pub afterWalk : List ℕ → State → WalkOut → Turn
+afterWalk s st w = lineAfter s st (w .walked .read) (w .left) (w .table) (w .walked .step)
 
 unfoldable pub turn : Table → List ℕ → State → List ℕ → Turn
-turn t s st scratch = pick (leb (length s) most) (afterWalk (t .pictures) s st (walked t s (st .from) scratch)) (last tooLongLine st scratch)
+turn t s st scratch = pick (leb (length s) most) (afterWalk s st (walked t s (st .from) scratch)) (last tooLongLine st scratch t)
 
 -- what a step answers and leaves
-pub record Stepped (o : Turn) (line : List ℕ) (r : Listed) (scratch line′ : List ℕ) : Type 0 where
+pub record Stepped (o : Turn) (line : List ℕ) (r : Listed) (scratch line′ : List ℕ) (t : Table) : Type 0 where
   pub state : r .state ≡ o .state
   pub more : r .more ≡ o .more
   pub text : Written (o .text) line (r .length) line′
   pub left : scratch ≡ o .left
+  pub table : t ≡ o .table
 
--- ---- steps one after another: the lines that at most f of them write, each from the state and with the scratch that the one before left
+-- ---- steps one after another: the lines that at most f of them write, each from the state and with the scratch and the table that the one before left
 
-abbrev pub andOn : Turn → (State → List ℕ → List ℕ) → List ℕ
-andOn o rest = o .text ++ pick (o .more) (rest (o .state) (o .left)) []
+abbrev pub andOn : Turn → (Table → State → List ℕ → List ℕ) → List ℕ
+andOn o rest = o .text ++ pick (o .more) (rest (o .table) (o .state) (o .left)) []
 
-abbrev pub steps : ℕ → Table → List ℕ → State → List ℕ → List ℕ
-steps zero t s st scratch = []
-steps (suc f) t s st scratch = andOn (turn t s st scratch) (steps f t s)
+abbrev pub steps : ℕ → List ℕ → Table → State → List ℕ → List ℕ
+steps zero s t st scratch = []
+steps (suc f) s t st scratch = andOn (turn t s st scratch) (steps f s)

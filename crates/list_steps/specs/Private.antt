@@ -4,6 +4,8 @@ use mathlib.Core.Path.{_≡_}
 use mathlib.Core.List.{List, []}
 use mathlib.Core.Bool.{Bool, true, false}
 use lib.ListN.{replicate}
+use Rattle.table.specs.declared.table.Table.{Table}
+use Rattle.table.specs.Tables.{emptyTable}
 use Rattle.header.specs.Short.{zeros}
 use Rattle.unit.specs.declared.into.ShortAnswer.{ShortAnswer}
 use Rattle.unit.specs.Into.{shortAnswer, Lent, wordsAfter}
@@ -16,21 +18,24 @@ use Rattle.list_steps.specs.Listing.{last, Stepped}
 abbrev pub isRefusedShort : ShortAnswer → Bool
 isRefusedShort (ShortAnswer.Slice bits) = false
 isRefusedShort (ShortAnswer.«Prefix» p) = false
+isRefusedShort (ShortAnswer.Sequence v) = false
+isRefusedShort (ShortAnswer.Picture v) = false
 isRefusedShort (ShortAnswer.Other id) = false
 isRefusedShort (ShortAnswer.Refused r) = true
 
--- a last line, where scratch plays no part
+-- a last line, where scratch and table play no part
 abbrev pub Ends : List ℕ → State → List ℕ → Listed → List ℕ → Type 0
-Ends text st line r line′ = Stepped (last text st []) line r [] line′
+Ends text st line r line′ = Stepped (last text st [] emptyTable) line r [] line′ emptyTable
 
 -- words that nothing was read into
 abbrev pub blank : Lent
 blank = record { header = zeros; base = replicate 198 0 }
 
 -- a step of the walk, and what reading left in the words of a slice's fields
-pub record Met (o : WalkOut) (r : Next) (scratch : List ℕ) : Type 0 where
+pub record Met (o : WalkOut) (r : Next) (scratch : List ℕ) (t : Table) : Type 0 where
   pub step : r .step ≡ o .walked .step
   pub answered : r .answer ≡ shortAnswer (o .walked .read)
   pub numbers : r .numbers ≡ wordsAfter (o .walked .read) blank .header .numbers
   pub signed : r .signed ≡ wordsAfter (o .walked .read) blank .header .signed
   pub left : scratch ≡ o .left
+  pub table : t ≡ o .table

@@ -53,6 +53,8 @@ fn is_refused(a: ShortAnswer) -> bool
     match a {
         ShortAnswer::Slice(_) => false,
         ShortAnswer::Prefix(_) => false,
+        ShortAnswer::Sequence(_) => false,
+        ShortAnswer::Picture(_) => false,
         ShortAnswer::Other(_) => false,
         ShortAnswer::Refused(_) => true,
     }
@@ -109,14 +111,14 @@ struct Next {
     signed: [i32; 7],
 }
 
-fn walk_on<'a>(
-    sequences: &'a [u32; 224],
-    pictures: &'a [u32; 2304],
+fn walk_on(
+    sequences: &mut [u32; 224],
+    pictures: &mut [u32; 2304],
     recording: &[u8],
     from: usize,
     scratch: &mut [u8],
 ) -> Next
-    ensures { λ r. ⌜ Met (walked (tableOf (now (sequences .entry)) (now (pictures .entry))) (now (recording .entry)) from (now (scratch .entry))) r (now (scratch .exit)) ⌝ }
+    ensures { λ r. ⌜ Met (walked (tableOf (now (sequences .entry)) (now (pictures .entry))) (now (recording .entry)) from (now (scratch .entry))) r (now (scratch .exit)) (tableOf (now (sequences .exit)) (now (pictures .exit))) ⌝ }
 {
     let mut numbers = [0u32; 57];
     let mut signed = [0i32; 7];
@@ -151,16 +153,16 @@ fn walk_on<'a>(
     }
 }
 
-// The next line of a listing, by the sets in a table's two arrays, to the front of `line`. Scratch is the walk's.
-pub fn list_step<'a>(
-    sequences: &'a [u32; 224],
-    pictures: &'a [u32; 2304],
+// The next line of a listing, by the sets in a table's two arrays, to the front of `line`. Scratch is the walk's, and so are the arrays: a set that is met goes into them.
+pub fn list_step(
+    sequences: &mut [u32; 224],
+    pictures: &mut [u32; 2304],
     recording: &[u8],
     state: State,
     scratch: &mut [u8],
     line: &mut [u8; 128],
 ) -> Listed
-    ensures { λ r. ⌜ Stepped (turn (tableOf (now (sequences .entry)) (now (pictures .entry))) (now (recording .entry)) state (now (scratch .entry))) (now (line .entry)) r (now (scratch .exit)) (now (line .exit)) ⌝ }
+    ensures { λ r. ⌜ Stepped (turn (tableOf (now (sequences .entry)) (now (pictures .entry))) (now (recording .entry)) state (now (scratch .entry))) (now (line .entry)) r (now (scratch .exit)) (now (line .exit)) (tableOf (now (sequences .exit)) (now (pictures .exit))) ⌝ }
 {
     if MOST < recording.len() {
         return too_long(state, line);

@@ -15,12 +15,14 @@ fn complain(words: &[u8]) {
 // Line after line, until there are no more; false where one cannot be written.
 fn print(recording: &[u8], scratch: &mut [u8]) -> bool {
     let t = sample_table();
+    let mut sequences = t.sequences;
+    let mut pictures = t.pictures;
     let mut line = [0u8; 128];
     let mut state = start();
     loop {
         let l = list_step(
-            &t.sequences,
-            &t.pictures,
+            &mut sequences,
+            &mut pictures,
             recording,
             state,
             scratch,

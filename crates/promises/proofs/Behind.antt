@@ -157,7 +157,7 @@ module _ (t : Table) (s s′ scratch scratch′ : List ℕ) (from p l n e : ℕ)
 
   -- a step to a unit reads it
   reads-unit : walked t s from scratch .walked .step ≡ Step.Unit p l n
-      → (nextUnit s from ≡ Found.At p l n) × (walked t s from scratch ≡ reading p l n (unitRead t (take l (drop p s)) scratch))
+      → (nextUnit s from ≡ Found.At p l n) × (walked t s from scratch ≡ reading t p l n (unitRead t (take l (drop p s)) scratch))
   reads-unit q =
       let w : nextStep s from ≡ Step.Unit p l n = sym (step-of (nextStep s from)) ∙ sym (ap (λ (o : WalkOut). o .walked .step) (by-step t s from scratch)) ∙ q in
       (found-at s from w, by-step t s from scratch ∙ ap (byStep t s scratch) w)

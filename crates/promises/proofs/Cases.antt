@@ -23,18 +23,22 @@ use Rattle.syntax.specs.declared.record.SliceHeader.{SliceHeader}
 use Rattle.syntax.specs.declared.record.Prefix.{Prefix}
 use Rattle.syntax.specs.SliceHeader.{readHeader}
 use Rattle.syntax.specs.Prefix.{prefix}
+use Rattle.parameter_sets.specs.declared.sequence.SequenceSet.{SequenceSet}
+use Rattle.parameter_sets.specs.declared.picture.PictureSet.{PictureSet}
+use Rattle.parameter_sets.specs.SequenceSet.{sequenceSet}
+use Rattle.parameter_sets.specs.PictureSet.{pictureSet}
 use Rattle.unit.specs.declared.answer.UnitAnswer.{UnitAnswer}
 use Rattle.unit.specs.declared.answer.UnitRead.{UnitRead}
 use Rattle.unit.specs.declared.begin.Begun.{Begun}
-use Rattle.unit.specs.Answer.{only, sliceAnswer, prefixAnswer}
+use Rattle.unit.specs.Answer.{only, sliceAnswer, prefixAnswer, sequenceAnswer, pictureAnswer}
 use Rattle.unit.specs.Begin.{typeIn, isPlain, hasExtension, extended, withExtension, typed, withHeader, begun}
-use Rattle.unit.specs.Unit.{inBody, sliceBits, prefixBits, afterBegin, unitRead}
+use Rattle.unit.specs.Unit.{inBody, sliceBits, prefixBits, sequenceBits, pictureBits, afterBegin, unitRead}
 use Rattle.walk.specs.declared.search.Found.{Found}
 use Rattle.walk.specs.declared.walk.Step.{Step}
 use Rattle.walk.specs.Walk.{nextUnit}
-use Rattle.walk.specs.Walked.{nothing, afterSearch, walked}
+use Rattle.walk.specs.Walked.{WalkOut, nothing, afterSearch, walked}
 use Rattle.promises.specs.Demands.{bodyLeft, leftBy, scratchAfter}
-use Rattle.promises.proofs.Numbers.{Placed, Known, header-known, prefix-known}
+use Rattle.promises.proofs.Numbers.{Placed, Known, header-known, prefix-known, sequence-known, picture-known}
 
 -- ---- what is read
 
@@ -42,6 +46,8 @@ use Rattle.promises.proofs.Numbers.{Placed, Known, header-known, prefix
 abbrev pub Alone : UnitRead → UnitAnswer → Type 0
 Alone x (UnitAnswer.Slice n) = Unit {0}
 Alone x UnitAnswer.«Prefix» = Unit {0}
+Alone x (UnitAnswer.Sequence v) = Unit {0}
+Alone x (UnitAnswer.Picture v) = Unit {0}
 Alone x (UnitAnswer.Other id) = Unit {0}
 Alone x (UnitAnswer.Refused r) = (x ≡ only (UnitAnswer.Refused r)) × Placed (r .«has_bit») (r .number)
 
@@ -58,6 +64,16 @@ unfolding only
 prefix-fine (got p e) k = tt
 prefix-fine (no r) k = (refl, k)
 
+sequence-fine : (m : Res SequenceSet) → Known m → Fine (sequenceAnswer m)
+unfolding only
+sequence-fine (got v e) k = tt
+sequence-fine (no r) k = (refl, k)
+
+picture-fine : (m : Res PictureSet) → Known m → Fine (pictureAnswer m)
+unfolding only
+picture-fine (got v e) k = tt
+picture-fine (no r) k = (refl, k)
+
 -- an answer without a record
 other-fine : (id : ℕ) → Fine (only (UnitAnswer.Other id))
 unfolding only
@@ -72,6 +88,8 @@ refused-fine r k = (refl, k)
 abbrev Begins : Begun → Type 0
 Begins (Begun.Slice kind from) = Unit {0}
 Begins (Begun.«Prefix» kind) = Unit {0}
+Begins Begun.SequenceSet = Unit {0}
+Begins Begun.PictureSet = Unit {0}
 Begins (Begun.Other id) = Unit {0}
 Begins (Begun.Refused r) = Placed (r .«has_bit») (r .number)
 
@@ -85,7 +103,9 @@ extended-begins unit h = cases (leb 4 (length unit)) (λ i. rw i (begins-by (eqb
 
 typed-begins : (unit : List ℕ) (h : NalHeader) → Begins (typed unit h)
 unfolding typed
-typed-begins unit h = begins-by (isPlain (typeIn h)) _ _ tt (begins-by (hasExtension (typeIn h)) _ _ (extended-begins unit h) tt)
+typed-begins unit h =
+    begins-by (isPlain (typeIn h)) _ _ tt
+    (begins-by (hasExtension (typeIn h)) _ _ (extended-begins unit h) (begins-by (eqb (typeIn h) 7) _ _ tt (begins-by (eqb (typeIn h) 8) _ _ tt tt)))
 
 header-begins : (unit : List ℕ) → Begins (withHeader unit (headerOf unit))
 unfolding headerOf headerFrom
@@ -111,6 +131,14 @@ module _ (t : Table) (unit scratch : List ℕ) where
   unfolding prefixBits
   prefix-bits kind s = prefix-fine (prefix kind .read s 0) (prefix-known kind s)
 
+  sequence-bits : (s : Bits) → Fine (sequenceBits s)
+  unfolding sequenceBits
+  sequence-bits s = sequence-fine (sequenceSet s 0) (sequence-known s)
+
+  picture-bits : (s : Bits) → Fine (pictureBits s)
+  unfolding pictureBits
+  picture-bits s = picture-fine (pictureSet s 0) (picture-known s)
+
   pub unit-fine : Fine (unitRead t unit scratch .read)
   unfolding unitRead
   unit-fine = go (begun unit) (begun-begins unit)
@@ -118,6 +146,8 @@ module _ (t : Table) (unit scratch : List ℕ) where
       go : (b : Begun) → Begins b → Fine (afterBegin t unit scratch b .read)
       go (Begun.Slice kind from) k = in-body (sliceBits t kind) from (slice-bits kind)
       go (Begun.«Prefix» kind) k = in-body (prefixBits kind) 4 (prefix-bits kind)
+      go Begun.SequenceSet k = in-body sequenceBits 1 sequence-bits
+      go Begun.PictureSet k = in-body pictureBits 1 picture-bits
       go (Begun.Other id) k = other-fine id
       go (Begun.Refused r) k = refused-fine r k
 
@@ -132,26 +162,28 @@ module _ (t : Table) (unit scratch : List ℕ) where
       go : (b : Begun) → afterBegin t unit scratch b .left ≡ leftBy b unit scratch
       go (Begun.Slice kind from) = body-left _ from
       go (Begun.«Prefix» kind) = body-left _ 4
+      go Begun.SequenceSet = body-left _ 1
+      go Begun.PictureSet = body-left _ 1
       go (Begun.Other id) = refl
       go (Begun.Refused r) = refl
 
 -- ---- a step of the walk
 
--- a step to no unit leaves scratch as it was; one that is refused is 27
-abbrev pub Idle : List ℕ → List ℕ → Step → Type 0
-Idle scratch left (Step.Unit place length next) = Unit {0}
-Idle scratch left Step.End = left ≡ scratch
-Idle scratch left (Step.Refused r) = (left ≡ scratch) × (r ≡ refusal tooLarge (pos 0))
+-- a step to no unit leaves scratch and table as they were; one that is refused is 27
+abbrev pub Idle : Table → List ℕ → WalkOut → Step → Type 0
+Idle t scratch o (Step.Unit place length next) = Unit {0}
+Idle t scratch o Step.End = (o .left ≡ scratch) × (o .table ≡ t)
+Idle t scratch o (Step.Refused r) = ((o .left ≡ scratch) × (o .table ≡ t)) × (r ≡ refusal tooLarge (pos 0))
 
 module _ (t : Table) (s : List ℕ) (from : ℕ) (scratch : List ℕ) where
-  searched : (f : Found) → Idle scratch (afterSearch t s scratch f .left) (afterSearch t s scratch f .walked .step)
+  searched : (f : Found) → Idle t scratch (afterSearch t s scratch f) (afterSearch t s scratch f .walked .step)
   unfolding nothing
   searched (Found.At place length next) = tt
-  searched Found.End = refl
+  searched Found.End = (refl, refl)
 
-  pub walk-idle : Idle scratch (walked t s from scratch .left) (walked t s from scratch .walked .step)
+  pub walk-idle : Idle t scratch (walked t s from scratch) (walked t s from scratch .walked .step)
   unfolding walked nothing
-  walk-idle = cases (leb (length s) limit) (λ i. rw i (searched (nextUnit s from))) (λ i. rw i (refl, refl))
+  walk-idle = cases (leb (length s) limit) (λ i. rw i (searched (nextUnit s from))) (λ i. rw i ((refl, refl), refl))
 
 -- ---- the table
 

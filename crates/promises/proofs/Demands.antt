@@ -2,7 +2,7 @@
 -- `putPicture`, `walked` and `reports`, which are what the functions' contracts name.
 use Prim.Native.Nat.{ℕ, _+_, _≤_}
 use mathlib.Core.Path.{_≡_, sym, subst, subst⁻¹}
-use mathlib.Core.List.{List, _++_, map}
+use mathlib.Core.List.{List, [], _++_, map}
 use mathlib.Core.Bool.{true, false, _&&_}
 use lib.Dec.{T, leb, eqb}
 use lib.IntN.{pos}
@@ -31,9 +31,9 @@ use Rattle.unit.specs.Begin.{begun}
 use Rattle.unit.specs.Unit.{unitRead}
 use Rattle.walk.specs.declared.walk.Step.{Step}
 use Rattle.walk.specs.Walk.{hit}
-use Rattle.walk.specs.Units.{Report, units, reportOf}
+use Rattle.walk.specs.Units.{Report, units}
 use Rattle.walk.specs.Walked.{walked}
-use Rattle.walk.specs.Reports.{reports, sift, startsFrom, endsBefore, toEnd}
+use Rattle.walk.specs.Reports.{reports, reportsOf, sift, startsFrom, endsBefore, setsAmong, tableAt, toEnd}
 use Rattle.walk.proofs.Demand as walk
 use Rattle.writer.specs.declared.given.ExtensionGiven.{ExtensionGiven}
 use Rattle.writer.specs.declared.write.HeaderWrote.{HeaderWrote}
@@ -86,13 +86,14 @@ module _ (t : Table) (id : ℕ) (r : Refusal) where
   unfolding picturePut
   demand-1-refused-table-picture p e = cases (leb id 255 && pictureFits p) (λ g. not-done (rw g at e)) (λ g. (rw g, sym (cc (rw g at e))))
 
--- a step of the walk to no unit leaves scratch untouched; the only refusal is 27
+-- a step of the walk to no unit leaves scratch and table untouched; the only refusal is 27
 module _ (t : Table) (s : List ℕ) (from : ℕ) (scratch : List ℕ) where
-  pub demand-1-scratch-end : walked t s from scratch .walked .step ≡ Step.End → walked t s from scratch .left ≡ scratch
-  demand-1-scratch-end e = subst (Idle scratch (walked t s from scratch .left)) e (walk-idle t s from scratch)
+  pub demand-1-scratch-end : walked t s from scratch .walked .step ≡ Step.End → (walked t s from scratch .left ≡ scratch) × (walked t s from scratch .table ≡ t)
+  demand-1-scratch-end e = subst (Idle t scratch (walked t s from scratch)) e (walk-idle t s from scratch)
 
-  pub demand-1-refused-walk : (r : Refusal) → walked t s from scratch .walked .step ≡ Step.Refused r → (walked t s from scratch .left ≡ scratch) × (r ≡ refusal tooLarge (pos 0))
-  demand-1-refused-walk r e = subst (Idle scratch (walked t s from scratch .left)) e (walk-idle t s from scratch)
+  pub demand-1-refused-walk : (r : Refusal) → walked t s from scratch .walked .step ≡ Step.Refused r
+      → ((walked t s from scratch .left ≡ scratch) × (walked t s from scratch .table ≡ t)) × (r ≡ refusal tooLarge (pos 0))
+  demand-1-refused-walk r e = subst (Idle t scratch (walked t s from scratch)) e (walk-idle t s from scratch)
 
 -- ---- demand 2: a header that is read is what the standard's table says; it is written back to its exact bits, and what is written reads back
 
@@ -141,21 +142,31 @@ module _ (t : Table) (first : ℕ) (x : ExtensionGiven) (h : SliceHeader) (out :
 -- ---- demand 3: damage stays where it is
 
 module _ (t : Table) (scratch s : List ℕ) (small : length s ≤ limit) where
-  -- the reports are those of all units, one for each start code and in their order, each as reading that unit by itself answers
-  pub demand-3-complete : reports t scratch s ≡ map (reportOf (λ u. unitRead t u scratch .read)) (units s)
+  -- the reports are those of all units, one for each start code and in their order, each as reading that unit answers by the table that the units before it leave
+  pub demand-3-complete : reports t scratch s ≡ reportsOf t scratch (units s)
   demand-3-complete = walk.demand-3-complete t scratch s small
 
   -- of a unit whose start code begins at i there is one report where 00 00 01 stands at i, and none elsewhere
   pub demand-3-once : (i : ℕ) → length (sift (λ (r : Report UnitRead). eqb (r .place) (i + 3)) (reports t scratch s)) ≡ pick (hit 1 (drop i s)) 1 0
   demand-3-once = walk.demand-3-once t scratch s small
 
--- a recording P, M, S of which the middle M became N; c and d are the scratches
+-- a recording P, M, S of which the middle M became N; c and d are the scratches, t and t′ the tables to begin with
+module _ (t t′ : Table) (P M N S c d : List ℕ) (m-limit : length (P ++ M ++ S) ≤ limit) (n-limit : length (P ++ N ++ S) ≤ limit)
+    (m-room : length (P ++ M ++ S) ≤ length c) (n-room : length (P ++ N ++ S) ≤ length d) where
+  -- S begins with a start code, and both walks come to it with the same table: the units whose start code begins in S have the same reports, equally far from the end
+  pub demand-3-late : hit 1 S ≡ true → tableAt t c (P ++ M ++ S) (length (P ++ M)) ≡ tableAt t′ d (P ++ N ++ S) (length (P ++ N))
+      → map (toEnd (length (P ++ M ++ S))) (startsFrom (length (P ++ M)) (reports t c (P ++ M ++ S)))
+      ≡ map (toEnd (length (P ++ N ++ S))) (startsFrom (length (P ++ N)) (reports t′ d (P ++ N ++ S)))
+  demand-3-late = walk.demand-3-late t t′ P M N S c d m-limit n-limit m-room n-room
+
+-- and with one table to begin with
 module _ (t : Table) (P M N S c d : List ℕ) (m-limit : length (P ++ M ++ S) ≤ limit) (n-limit : length (P ++ N ++ S) ≤ limit)
     (m-room : length (P ++ M ++ S) ≤ length c) (n-room : length (P ++ N ++ S) ≤ length d) where
-  -- the units whose start code begins in S have the same reports, equally far from the end
-  pub demand-3-late : map (toEnd (length (P ++ M ++ S))) (startsFrom (length (P ++ M)) (reports t c (P ++ M ++ S)))
+  -- where neither recording has a set that is read, they have the same reports without those premises
+  pub demand-3-late-without-sets : setsAmong (reports t c (P ++ M ++ S)) ≡ [] → setsAmong (reports t d (P ++ N ++ S)) ≡ []
+      → map (toEnd (length (P ++ M ++ S))) (startsFrom (length (P ++ M)) (reports t c (P ++ M ++ S)))
       ≡ map (toEnd (length (P ++ N ++ S))) (startsFrom (length (P ++ N)) (reports t d (P ++ N ++ S)))
-  demand-3-late = walk.demand-3-late t P M N S c d m-limit n-limit m-room n-room
+  demand-3-late-without-sets = walk.late-without-sets t P M N S c d m-limit n-limit m-room n-room
 
   -- the units whose end mark lies wholly in P have the same reports, at the same places
   pub demand-3-early : endsBefore (length P) (reports t c (P ++ M ++ S)) ≡ endsBefore (length P) (reports t d (P ++ N ++ S))

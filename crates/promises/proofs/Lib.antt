@@ -9,3 +9,4 @@ pub mod Torn
 pub mod Bound
 pub mod BoundWords
 pub mod Widths
+pub mod Sets

@@ -1,4 +1,4 @@
--- Which numbers a refusal can have that arises while a body is read, and that it has a place there: one law for each combinator and each single field, and so for the header and the prefix.
+-- Which numbers a refusal can have that arises while a body is read, and that it has a place there: one law for each combinator and each single field, and so for the header, the prefix and the parameter sets.
 use Prim.Native.Nat.{ℕ, zero, suc, _+_}
 use mathlib.Core.Path.{_≡_, refl}
 use mathlib.Core.List.{[], _∷_}
@@ -8,6 +8,7 @@ use lib.IntN.{ℤ, pos}
 use lib.ListN.{length, drop}
 use Rattle.bits.specs.Refusals.{Res, got, no, bind, pick}
 use Rattle.bits.specs.Bits.{Bits}
+use Rattle.bits.specs.declared.refusals.Refusal.{Refusal}
 use Rattle.bits.specs.Codes.{widthOf, fixedAt, suffixAt, codeAt, ueAt}
 use Rattle.fmt.specs.Fmt.{Fmt, nothing, seq, shaped, test, when, times, until}
 use Rattle.fmt.specs.Leaves.{flag, u, ue, se}
@@ -20,6 +21,11 @@ use Rattle.syntax.specs.Lists.{Kind, entries, noOperations, isNoOperations, cod
 use Rattle.syntax.specs.Context.{contextFor}
 use Rattle.syntax.specs.SliceHeader.{sliceType, pictureSetId, lead, frame, deltas, orderCount, activeMinus1, activeCounts, modification, modificationKind, notScalable, modifications, weight, weightList, predWeightTable, markingKind, decRefPicMarking, quantiser, filter, parts, header, anySet, readHeader}
 use Rattle.syntax.specs.Prefix.{baseMarkingKind, prefix}
+use Rattle.parameter_sets.specs.SequenceSet.{sequenceSet}
+use Rattle.parameter_sets.specs.PictureSet.{pictureSet}
+use Rattle.parameter_sets.proofs.Gives.{Allows, Ends}
+use Rattle.parameter_sets.proofs.SequenceKnown.{sequence-gives}
+use Rattle.parameter_sets.proofs.PictureKnown.{picture-gives}
 use Rattle.promises.specs.Demands.{oneOf, readNumbers, bodyNumbers}
 
 -- a number that reading gives; where it is given in a body, with a bit place
@@ -275,3 +281,19 @@ prefix-known k s =
     then (operationsIf-gives _ baseMarkingKind (tt, refl)) (λ base.
     flagIf-gives _))))
     .known s 0
+
+-- ---- parameter sets
+
+-- 5, 6 and 28, in a body
+placed : Allows (λ (r : Refusal). Placed (r .«has_bit») (r .number))
+placed = record { out = λ p. (tt, refl); zeros = λ p. (tt, refl); field = λ p. (tt, refl) }
+
+set-known : {A : Type 0} (P : A → Type 0) (m : Res A) → Ends (λ (r : Refusal). Placed (r .«has_bit») (r .number)) P m → Known m
+set-known P (got a e) h = tt
+set-known P (no r) h = h
+
+pub sequence-known : (s : Bits) → Known (sequenceSet s 0)
+sequence-known s = set-known _ (sequenceSet s 0) (sequence-gives placed .known s 0)
+
+pub picture-known : (s : Bits) → Known (pictureSet s 0)
+picture-known s = set-known _ (pictureSet s 0) (picture-gives placed .known s 0)

@@ -35,6 +35,8 @@ module _ (t : Table) (v : TrueWidths t) where
   unfolding sliceBits
   begun-same u scratch (Begun.Slice kind from) = λ i. inBody (λ s. sliceAnswer (read-same kind s i)) u from scratch
   begun-same u scratch (Begun.«Prefix» there) = refl
+  begun-same u scratch Begun.SequenceSet = refl
+  begun-same u scratch Begun.PictureSet = refl
   begun-same u scratch (Begun.Other id) = refl
   begun-same u scratch (Begun.Refused r) = refl
 

@@ -14,7 +14,7 @@ use Rattle.unit.specs.declared.begin.Begun.{Begun}
 use Rattle.unit.specs.declared.answer.UnitAnswer.{UnitAnswer}
 use Rattle.unit.specs.Answer.{sliceAnswer}
 use Rattle.unit.specs.Begin.{begun}
-use Rattle.unit.specs.Unit.{UnitOut, untouched, inBody, prefixBits}
+use Rattle.unit.specs.Unit.{UnitOut, untouched, inBody, prefixBits, sequenceBits, pictureBits}
 
 abbrev pub readBefore : Table → UnitKind → Bits → Res SliceHeader
 readBefore t n s = bind (headerBefore t n .read s 0) (λ h e. pick (anySet (drop (e + 1) s)) (got h e) (no (refusalAt 22 (pos 0) e)))
@@ -22,6 +22,8 @@ readBefore t n s = bind (headerBefore t n .read s 0) (λ h e. pick (anySet (drop
 abbrev pub begunBefore : Table → List ℕ → List ℕ → Begun → UnitOut
 begunBefore t u scratch (Begun.Slice kind from) = inBody (λ s. sliceAnswer (readBefore t kind s)) u from scratch
 begunBefore t u scratch (Begun.«Prefix» kind) = inBody (prefixBits kind) u 4 scratch
+begunBefore t u scratch Begun.SequenceSet = inBody sequenceBits u 1 scratch
+begunBefore t u scratch Begun.PictureSet = inBody pictureBits u 1 scratch
 begunBefore t u scratch (Begun.Other id) = untouched (UnitAnswer.Other id) scratch
 begunBefore t u scratch (Begun.Refused r) = untouched (UnitAnswer.Refused r) scratch
 

@@ -24,11 +24,11 @@ oneOf (m ∷ ms) n = eqb n m || oneOf ms n
 
 -- reading a unit, and so each report of a walk: all but 3 and 25, the writer's, and 24, the table's
 abbrev pub readNumbers : List ℕ
-readNumbers = 1 ∷ 2 ∷ 4 ∷ 5 ∷ 6 ∷ 7 ∷ 8 ∷ 9 ∷ 10 ∷ 11 ∷ 12 ∷ 13 ∷ 14 ∷ 15 ∷ 16 ∷ 17 ∷ 18 ∷ 19 ∷ 20 ∷ 21 ∷ 22 ∷ 23 ∷ 26 ∷ 27 ∷ []
+readNumbers = 1 ∷ 2 ∷ 4 ∷ 5 ∷ 6 ∷ 7 ∷ 8 ∷ 9 ∷ 10 ∷ 11 ∷ 12 ∷ 13 ∷ 14 ∷ 15 ∷ 16 ∷ 17 ∷ 18 ∷ 19 ∷ 20 ∷ 21 ∷ 22 ∷ 23 ∷ 26 ∷ 27 ∷ 28 ∷ []
 
 -- those of them that arise while a body is read: they have a bit place, the others have none
 abbrev pub bodyNumbers : List ℕ
-bodyNumbers = 5 ∷ 6 ∷ 7 ∷ 8 ∷ 9 ∷ 10 ∷ 11 ∷ 12 ∷ 13 ∷ 14 ∷ 15 ∷ 16 ∷ 17 ∷ 18 ∷ 19 ∷ 20 ∷ 21 ∷ 22 ∷ 23 ∷ []
+bodyNumbers = 5 ∷ 6 ∷ 7 ∷ 8 ∷ 9 ∷ 10 ∷ 11 ∷ 12 ∷ 13 ∷ 14 ∷ 15 ∷ 16 ∷ 17 ∷ 18 ∷ 19 ∷ 20 ∷ 21 ∷ 22 ∷ 23 ∷ 28 ∷ []
 
 -- writing a header
 abbrev pub writeNumbers : List ℕ
@@ -41,6 +41,8 @@ bodyLeft unit from scratch = pick (leb (length unit) (length scratch)) (startWit
 abbrev pub leftBy : Begun → List ℕ → List ℕ → List ℕ
 leftBy (Begun.Slice kind from) unit scratch = bodyLeft unit from scratch
 leftBy (Begun.«Prefix» kind) unit scratch = bodyLeft unit 4 scratch
+leftBy Begun.SequenceSet unit scratch = bodyLeft unit 1 scratch
+leftBy Begun.PictureSet unit scratch = bodyLeft unit 1 scratch
 leftBy (Begun.Other id) unit scratch = scratch
 leftBy (Begun.Refused r) unit scratch = scratch
 

@@ -3,3 +3,4 @@ pub mod Demands
 pub mod Behind
 pub mod Bound
 pub mod Before
+pub mod Sets

@@ -95,6 +95,8 @@ fn body(head: UnitHead, bytes: &[u8], value: i64, said: &[u8]) {
             header(h);
         }
         UnitAnswer::Prefix => prefix(p),
+        UnitAnswer::Sequence(s) => field(b": sps id=", s.seq_parameter_set_id),
+        UnitAnswer::Picture(s) => field(b": pps id=", s.pic_parameter_set_id),
         UnitAnswer::Other(_) => text(b": other"),
         UnitAnswer::Refused(x) => refused(x, value, said),
     }

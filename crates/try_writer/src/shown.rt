@@ -94,6 +94,8 @@ fn told(answer: ShortAnswer, bits: usize, is_same: bool) {
             }
         }
         ShortAnswer::Prefix(_) => show::text(b"prefix"),
+        ShortAnswer::Sequence(_) => show::text(b"no slice"),
+        ShortAnswer::Picture(_) => show::text(b"no slice"),
         ShortAnswer::Other(_) => show::text(b"no slice"),
         ShortAnswer::Refused(x) => show::refusal(x),
     }

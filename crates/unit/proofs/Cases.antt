@@ -24,6 +24,8 @@ use Rattle.unit.specs.Unit.{untouched, inBody, afterBegin, unitRead}
 abbrev pub isRead : Begun → Bool
 isRead (Begun.Slice kind from) = true
 isRead (Begun.«Prefix» kind) = true
+isRead Begun.SequenceSet = true
+isRead Begun.PictureSet = true
 isRead (Begun.Other id) = false
 isRead (Begun.Refused r) = false
 
@@ -71,6 +73,8 @@ module _ (t : Table) (unit scratch : List ℕ) where
       go : (b : Begun) → isRead b ≡ true → afterBegin t unit scratch b ≡ untouched (UnitAnswer.Refused (refusal bufferTooShort (pos (length unit)))) scratch
       go (Begun.Slice kind from) g = body-short _ unit from scratch h
       go (Begun.«Prefix» kind) g = body-short _ unit 4 scratch h
+      go Begun.SequenceSet g = body-short _ unit 1 scratch h
+      go Begun.PictureSet g = body-short _ unit 1 scratch h
       go (Begun.Other id) g = absurd (true≢false (sym g))
       go (Begun.Refused r) g = absurd (true≢false (sym g))
 
@@ -82,6 +86,8 @@ module _ (t : Table) (unit scratch : List ℕ) where
       go : (b : Begun) → isRead b ≡ false → afterBegin t unit scratch b .left ≡ scratch
       go (Begun.Slice kind from) g = absurd (true≢false g)
       go (Begun.«Prefix» kind) g = absurd (true≢false g)
+      go Begun.SequenceSet g = absurd (true≢false g)
+      go Begun.PictureSet g = absurd (true≢false g)
       go (Begun.Other id) g = refl
       go (Begun.Refused r) g = refl
 
@@ -93,6 +99,8 @@ module _ (t : Table) (unit scratch : List ℕ) where
       go : (b : Begun) → length (afterBegin t unit scratch b .left) ≡ length scratch
       go (Begun.Slice kind from) = body-left _ unit from scratch
       go (Begun.«Prefix» kind) = body-left _ unit 4 scratch
+      go Begun.SequenceSet = body-left _ unit 1 scratch
+      go Begun.PictureSet = body-left _ unit 1 scratch
       go (Begun.Other id) = refl
       go (Begun.Refused r) = refl
 

@@ -33,6 +33,16 @@ module _ (t : Table) where
   unfolding unitRead begun headerOf headerFrom forbiddenZeroBitOf typed nalUnitType typeOf digits numberOf inBody
   three-of-four = refl
 
+  -- 67 42: a sequence set and no scratch: 26, and two bytes are needed
+  pub set-without-scratch : unitRead t (103 ∷ 66 ∷ []) [] ≡ untouched (UnitAnswer.Refused (refusal 26 (pos 2))) []
+  unfolding unitRead begun headerOf headerFrom forbiddenZeroBitOf typed nalUnitType typeOf digits numberOf inBody
+  set-without-scratch = refl
+
+  -- 68 CE: a picture set's body is left in front of scratch
+  pub set-in-front : unitRead t (104 ∷ 206 ∷ []) (7 ∷ 7 ∷ []) .left ≡ 206 ∷ 7 ∷ []
+  unfolding unitRead begun headerOf headerFrom forbiddenZeroBitOf typed nalUnitType typeOf digits numberOf inBody
+  set-in-front = refl
+
   -- a slice's body is left in front of scratch, whatever its header says
   pub body-in-front : unitRead t (101 ∷ 0 ∷ 0 ∷ 3 ∷ 1 ∷ []) (7 ∷ 7 ∷ 7 ∷ 7 ∷ 7 ∷ 7 ∷ []) .left ≡ 0 ∷ 0 ∷ 1 ∷ 7 ∷ 7 ∷ 7 ∷ []
   unfolding unitRead begun headerOf headerFrom forbiddenZeroBitOf typed nalUnitType typeOf digits numberOf inBody

@@ -19,12 +19,20 @@ use Rattle.lists.specs.declared.list_words.PrefixStep.{PrefixStep}
 use Rattle.lists.specs.Leaves.{leaves}
 use Rattle.lists.specs.ListsLent.{prefixStep, prefixLeft}
 use Rattle.header.specs.Short.{HeaderWords, zeros, headerEnd, headerLeft}
+use Rattle.parameter_sets.specs.declared.sequence.SequenceSet.{SequenceSet}
+use Rattle.parameter_sets.specs.declared.sequence.SequenceSetStep.{SequenceSetStep}
+use Rattle.parameter_sets.specs.declared.picture.PictureSet.{PictureSet}
+use Rattle.parameter_sets.specs.declared.picture.PictureSetStep.{PictureSetStep}
+use Rattle.parameter_sets.specs.SequenceSet.{sequenceSet}
+use Rattle.parameter_sets.specs.SequenceSteps.{asSequenceSet}
+use Rattle.parameter_sets.specs.PictureSet.{pictureSet}
+use Rattle.parameter_sets.specs.PictureSteps.{asPictureSet}
 use Rattle.unit.specs.declared.answer.UnitAnswer.{UnitAnswer}
 use Rattle.unit.specs.declared.answer.UnitRead.{UnitRead}
 use Rattle.unit.specs.declared.into.ShortAnswer.{ShortAnswer}
 use Rattle.unit.specs.Answer.{only, sliceAnswer, prefixAnswer}
-use Rattle.unit.specs.Unit.{UnitOut, untouched, sliceBits, prefixBits}
-use Rattle.unit.specs.Into.{short, shortAnswer, Lent, blank, after, wordsAfter, ReadInto, sliceShort, bodyShort, Held, Taken}
+use Rattle.unit.specs.Unit.{UnitOut, untouched, sliceBits, prefixBits, sequenceBits, pictureBits}
+use Rattle.unit.specs.Into.{short, shortAnswer, Lent, blank, after, wordsAfter, ReadInto, sliceShort, bodyShort, sequenceShort, pictureShort, Held, Taken}
 
 -- ---- the body of a slice
 
@@ -60,6 +68,20 @@ module _ {o : UnitOut} {left : List ℕ} where
       let l = body-held (prefix kind .read s 0) b p q h in
       rw (e, k) (record { answered = l .0; left = refl; held = l .1 })
 
+  -- ---- the body of a parameter set
+
+  pub sequence-taken : (s : Bits) → o ≡ record { read = sequenceBits s; left = left } → (a : SequenceSetStep) {r : ShortAnswer} → asSequenceSet a ≡ sequenceSet s 0
+      → r ≡ sequenceShort a → (w : Lent) → Taken o r left w w
+  unfolding sequenceBits shortAnswer wordsAfter only
+  sequence-taken s e (SequenceSetStep.Got v c) p k w = rw (e, k, ← p) (record { answered = refl; left = refl; held = refl })
+  sequence-taken s e (SequenceSetStep.Refused r) p k w = rw (e, k, ← p) (record { answered = refl; left = refl; held = tt })
+
+  pub picture-taken : (s : Bits) → o ≡ record { read = pictureBits s; left = left } → (a : PictureSetStep) {r : ShortAnswer} → asPictureSet a ≡ pictureSet s 0
+      → r ≡ pictureShort a → (w : Lent) → Taken o r left w w
+  unfolding pictureBits shortAnswer wordsAfter only
+  picture-taken s e (PictureSetStep.Got v c) p k w = rw (e, k, ← p) (record { answered = refl; left = refl; held = refl })
+  picture-taken s e (PictureSetStep.Refused r) p k w = rw (e, k, ← p) (record { answered = refl; left = refl; held = tt })
+
   -- ---- no body
 
   pub other-taken : (t : ℕ) → o ≡ untouched (UnitAnswer.Other t) left → (w : Lent) → Taken o (ShortAnswer.Other t) left w w
@@ -75,18 +97,15 @@ module _ {o : UnitOut} {left : List ℕ} where
 refused-words : (a : UnitAnswer) (u : UnitRead) {r : Refusal} → ShortAnswer.Refused r ≡ short a u → (b : Lent) → after a u b ≡ blank
 refused-words (UnitAnswer.Slice n) u e b = let z : _≡_ {A = ℕ} 0 1 = cc in absurd (omega arith)
 refused-words UnitAnswer.«Prefix» u e b = let z : _≡_ {A = ℕ} 0 1 = cc in absurd (omega arith)
+refused-words (UnitAnswer.Sequence v) u e b = let z : _≡_ {A = ℕ} 0 1 = cc in absurd (omega arith)
+refused-words (UnitAnswer.Picture v) u e b = let z : _≡_ {A = ℕ} 0 1 = cc in absurd (omega arith)
 refused-words (UnitAnswer.Other t) u e b = let z : _≡_ {A = ℕ} 0 1 = cc in absurd (omega arith)
 refused-words (UnitAnswer.Refused r) u e b = refl
 
 module _ {o : UnitOut} {a : ShortAnswer} {scratch : List ℕ} {b w : Lent} (t : Taken o a scratch b w) where
-  pub kept-slice : (n : ℕ) → a ≡ ShortAnswer.Slice n → ReadInto o (ShortAnswer.Slice n) scratch b w
-  kept-slice n e = let k = rw e at t in record { answered = k .answered; left = k .left; words = k .held }
-
-  pub kept-prefix : (p : PrefixShort) → a ≡ ShortAnswer.«Prefix» p → ReadInto o (ShortAnswer.«Prefix» p) scratch b w
-  kept-prefix p e = let k = rw e at t in record { answered = k .answered; left = k .left; words = k .held }
-
-  pub kept-other : (n : ℕ) → a ≡ ShortAnswer.Other n → ReadInto o (ShortAnswer.Other n) scratch b w
-  kept-other n e = let k = rw e at t in record { answered = k .answered; left = k .left; words = k .held }
+  -- any answer but a refusal, of which Held speaks
+  pub kept : (s : ShortAnswer) → a ≡ s → (Held s (o .read) b w → w ≡ wordsAfter (o .read) b) → ReadInto o s scratch b w
+  kept s e f = let k = rw e at t in record { answered = k .answered; left = k .left; words = f (k .held) }
 
   pub cleared : (r : Refusal) → a ≡ ShortAnswer.Refused r → {l : Lent} → l ≡ blank → ReadInto o (ShortAnswer.Refused r) scratch b l
   unfolding shortAnswer wordsAfter

@@ -34,6 +34,8 @@ module _ (unit a b : List ℕ) (same : leb (length unit) (length a) ≡ leb (len
       go : (x : Begun) → afterBegin t unit a x .read ≡ afterBegin t unit b x .read
       go (Begun.Slice kind from) = body-answer _ from
       go (Begun.«Prefix» kind) = body-answer _ 4
+      go Begun.SequenceSet = body-answer _ 1
+      go Begun.PictureSet = body-answer _ 1
       go (Begun.Other id) = refl
       go (Begun.Refused r) = refl
 

@@ -23,6 +23,10 @@ use Rattle.syntax.specs.Lists.{okOperations}
 use Rattle.syntax.specs.Prefix.{prefix}
 use Rattle.syntax.proofs.Goods.{seq-first, seq-rest, shaped-from}
 use Rattle.syntax.proofs.Whole.{prefix-lawful}
+use Rattle.parameter_sets.specs.declared.sequence.SequenceSet.{SequenceSet}
+use Rattle.parameter_sets.specs.declared.picture.PictureSet.{PictureSet}
+use Rattle.parameter_sets.specs.SequenceSet.{sequenceSet}
+use Rattle.parameter_sets.specs.PictureSet.{pictureSet}
 use Rattle.lists.specs.ListsLent.{listWords}
 use Rattle.lists.proofs.Tidy.{list-padded}
 use Rattle.header.specs.Short.{HeaderWords, zeros, Tidy, headerAlone}
@@ -30,9 +34,9 @@ use Rattle.header.proofs.Tidy.{InOrder, operationsIf-ok, read-in-order, zeros-t
 use Rattle.unit.specs.declared.answer.UnitAnswer.{UnitAnswer}
 use Rattle.unit.specs.declared.answer.UnitRead.{UnitRead}
 use Rattle.unit.specs.declared.begin.Begun.{Begun}
-use Rattle.unit.specs.Answer.{only, sliceAnswer, prefixAnswer}
+use Rattle.unit.specs.Answer.{only, sliceAnswer, prefixAnswer, sequenceAnswer, pictureAnswer}
 use Rattle.unit.specs.Begin.{begun}
-use Rattle.unit.specs.Unit.{UnitOut, untouched, inBody, sliceBits, prefixBits, afterBegin, unitRead}
+use Rattle.unit.specs.Unit.{UnitOut, untouched, inBody, sliceBits, prefixBits, sequenceBits, pictureBits, afterBegin, unitRead}
 use Rattle.unit.specs.Into.{Lent, after, wordsAfter}
 
 -- ---- what is read is in order, and what the answer does not speak of is absent
@@ -40,6 +44,8 @@ use Rattle.unit.specs.Into.{Lent, after, wordsAfter}
 abbrev pub Ordered : UnitAnswer → UnitRead → Type 0
 Ordered (UnitAnswer.Slice n) u = InOrder (u .header) × (u .prefix ≡ noPrefix)
 Ordered UnitAnswer.«Prefix» u = (u .header ≡ noHeader) × T (okOperations (u .prefix .«base_marking»))
+Ordered (UnitAnswer.Sequence v) u = (u .header ≡ noHeader) × (u .prefix ≡ noPrefix)
+Ordered (UnitAnswer.Picture v) u = (u .header ≡ noHeader) × (u .prefix ≡ noPrefix)
 Ordered (UnitAnswer.Other t) u = (u .header ≡ noHeader) × (u .prefix ≡ noPrefix)
 Ordered (UnitAnswer.Refused r) u = (u .header ≡ noHeader) × (u .prefix ≡ noPrefix)
 
@@ -59,6 +65,16 @@ unfolding only
 prefix-ordered (got p e) f = (refl, f p e refl)
 prefix-ordered (no r) f = (refl, refl)
 
+sequence-ordered : (m : Res SequenceSet) → Ordered (sequenceAnswer m .answer) (sequenceAnswer m)
+unfolding only
+sequence-ordered (got v e) = (refl, refl)
+sequence-ordered (no r) = (refl, refl)
+
+picture-ordered : (m : Res PictureSet) → Ordered (pictureAnswer m .answer) (pictureAnswer m)
+unfolding only
+picture-ordered (got v e) = (refl, refl)
+picture-ordered (no r) = (refl, refl)
+
 body-ordered : (reads : Bits → UnitRead) (unit : List ℕ) (from : ℕ) (scratch : List ℕ) → ((s : Bits) → Ordered (reads s .answer) (reads s))
     → Ordered (inBody reads unit from scratch .read .answer) (inBody reads unit from scratch .read)
 unfolding inBody only
@@ -75,12 +91,14 @@ body-ordered reads unit from scratch f = go (leb (length unit) (length scratch))
     go false = (refl, refl)
 
 pub unit-ordered : (t : Table) (unit scratch : List ℕ) → Ordered (unitRead t unit scratch .read .answer) (unitRead t unit scratch .read)
-unfolding unitRead sliceBits prefixBits only
+unfolding unitRead sliceBits prefixBits sequenceBits pictureBits only
 unit-ordered t unit scratch = go (begun unit)
   where
     go : (b : Begun) → Ordered (afterBegin t unit scratch b .read .answer) (afterBegin t unit scratch b .read)
     go (Begun.Slice kind from) = body-ordered (sliceBits t kind) unit from scratch (λ s. slice-ordered _ (read-in-order t kind s))
     go (Begun.«Prefix» kind) = body-ordered (prefixBits kind) unit 4 scratch (λ s. prefix-ordered _ (prefix-good kind s))
+    go Begun.SequenceSet = body-ordered sequenceBits unit 1 scratch (λ s. sequence-ordered (sequenceSet s 0))
+    go Begun.PictureSet = body-ordered pictureBits unit 1 scratch (λ s. picture-ordered (pictureSet s 0))
     go (Begun.Other id) = (refl, refl)
     go (Begun.Refused r) = (refl, refl)
 
@@ -89,6 +107,8 @@ unit-ordered t unit scratch = go (begun unit)
 kept : (a : UnitAnswer) (u : UnitRead) (w : Lent) → Ordered a u → Tidy (w .header) → Tidy (after a u w .header)
 kept (UnitAnswer.Slice n) u w o t = rw (tidy-over (u .header) (w .header) t) (header-tidy (u .header) (o .0))
 kept UnitAnswer.«Prefix» u w o t = t
+kept (UnitAnswer.Sequence v) u w o t = t
+kept (UnitAnswer.Picture v) u w o t = t
 kept (UnitAnswer.Other i) u w o t = t
 kept (UnitAnswer.Refused r) u w o t = zeros-tidy
 

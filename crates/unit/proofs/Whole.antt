@@ -5,6 +5,8 @@ use mathlib.Core.List.{List}
 use lib.ListN.{replicate}
 use Rattle.bits.proofs.Results.{cases}
 use Rattle.table.specs.declared.table.Table.{Table}
+use Rattle.syntax.specs.Absent.{noHeader, noPrefix}
+use Rattle.lists.specs.ListsLent.{prefixShort}
 use Rattle.header.specs.Short.{emptied, zeros}
 use Rattle.record.specs.Record.{headerFrom, prefixFrom}
 use Rattle.record.proofs.Whole.{zeros-sized, emptied-sized, header-from-zeros, from-in, prefix-from-zeros, prefix-from}
@@ -26,6 +28,11 @@ taken a u =
       prefix = prefixFrom (prefixIn (short a u)) (after a u blank .base);
     }
 
+-- an answer that speaks of no record
+bare : (u : UnitRead) {a : UnitAnswer} → u .answer ≡ a → (u .header ≡ noHeader) × (u .prefix ≡ noPrefix)
+    → _≡_ {A = UnitRead} (record { answer = a; header = headerFrom zeros; prefix = prefixFrom (prefixShort noPrefix) (replicate 198 0) }) u
+bare u e o = λ i. record { answer = sym e i; header = (header-from-zeros ∙ sym (o .0)) i; prefix = (prefix-from-zeros ∙ sym (o .1)) i }
+
 same : (a : UnitAnswer) (u : UnitRead) → u .answer ≡ a → Ordered a u → taken a u ≡ u
 same (UnitAnswer.Slice n) u e o =
     λ i.
@@ -36,8 +43,10 @@ same (UnitAnswer.Slice n) u e o =
     }
 same UnitAnswer.«Prefix» u e o =
     λ i. record { answer = sym e i; header = (header-from-zeros ∙ sym (o .0)) i; prefix = prefix-from (u .prefix) (replicate 198 0) (o .1) refl i }
-same (UnitAnswer.Other t) u e o = λ i. record { answer = sym e i; header = (header-from-zeros ∙ sym (o .0)) i; prefix = (prefix-from-zeros ∙ sym (o .1)) i }
-same (UnitAnswer.Refused r) u e o = λ i. record { answer = sym e i; header = (header-from-zeros ∙ sym (o .0)) i; prefix = (prefix-from-zeros ∙ sym (o .1)) i }
+same (UnitAnswer.Sequence v) u e o = bare u e o
+same (UnitAnswer.Picture v) u e o = bare u e o
+same (UnitAnswer.Other t) u e o = bare u e o
+same (UnitAnswer.Refused r) u e o = bare u e o
 
 whole : (u : UnitRead) → Ordered (u .answer) u → {a : ShortAnswer} {w : Lent} → a ≡ shortAnswer u → w ≡ wordsAfter u blank
     → _≡_ {A = UnitRead} (record { answer = longAnswer a; header = headerFrom (w .header); prefix = prefixFrom (prefixIn a) (w .base) }) u

@@ -45,11 +45,15 @@ abbrev pub withExtension : NalHeader → ExtensionRead → Begun
 withExtension h (ExtensionRead.Got e) = extended h e
 withExtension h (ExtensionRead.Refused r) = Begun.Refused r
 
+-- parameter sets, types 7 and 8, and units of other types
+abbrev pub withoutExtension : ℕ → Begun
+withoutExtension t = pick (eqb t 7) Begun.SequenceSet (pick (eqb t 8) Begun.PictureSet (Begun.Other t))
+
 -- by nal_unit_type: slices without an extension, units with one, and others
 unfoldable pub typed : List ℕ → NalHeader → Begun
 typed unit h =
     pick (isPlain (typeIn h)) (Begun.Slice (kindOf h absentExtension) 1)
-    (pick (hasExtension (typeIn h)) (withExtension h (extensionOf unit)) (Begun.Other (typeIn h)))
+    (pick (hasExtension (typeIn h)) (withExtension h (extensionOf unit)) (withoutExtension (typeIn h)))
 
 -- 1 or 2, passed on, or the first byte
 abbrev pub withHeader : List ℕ → NalHeaderRead → Begun

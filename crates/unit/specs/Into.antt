@@ -12,6 +12,8 @@ use Rattle.syntax.specs.Absent.{noPrefix}
 use Rattle.lists.specs.declared.list_words.PrefixShort.{PrefixShort}
 use Rattle.lists.specs.declared.list_words.PrefixStep.{PrefixStep}
 use Rattle.lists.specs.ListsLent.{listWords, prefixShort}
+use Rattle.parameter_sets.specs.declared.sequence.SequenceSetStep.{SequenceSetStep}
+use Rattle.parameter_sets.specs.declared.picture.PictureSetStep.{PictureSetStep}
 use Rattle.header.specs.Short.{HeaderWords, Array, headerWords, emptied, headerIn, zeros}
 use Rattle.unit.specs.declared.answer.UnitAnswer.{UnitAnswer}
 use Rattle.unit.specs.declared.answer.UnitRead.{UnitRead}
@@ -22,6 +24,8 @@ use Rattle.unit.specs.Unit.{UnitOut}
 abbrev pub short : UnitAnswer → UnitRead → ShortAnswer
 short (UnitAnswer.Slice n) u = ShortAnswer.Slice n
 short UnitAnswer.«Prefix» u = ShortAnswer.«Prefix» (prefixShort (u .prefix))
+short (UnitAnswer.Sequence v) u = ShortAnswer.Sequence v
+short (UnitAnswer.Picture v) u = ShortAnswer.Picture v
 short (UnitAnswer.Other t) u = ShortAnswer.Other t
 short (UnitAnswer.Refused r) u = ShortAnswer.Refused r
 
@@ -33,12 +37,16 @@ shortAnswer u = short (u .answer) u
 abbrev pub longAnswer : ShortAnswer → UnitAnswer
 longAnswer (ShortAnswer.Slice n) = UnitAnswer.Slice n
 longAnswer (ShortAnswer.«Prefix» p) = UnitAnswer.«Prefix»
+longAnswer (ShortAnswer.Sequence v) = UnitAnswer.Sequence v
+longAnswer (ShortAnswer.Picture v) = UnitAnswer.Picture v
 longAnswer (ShortAnswer.Other t) = UnitAnswer.Other t
 longAnswer (ShortAnswer.Refused r) = UnitAnswer.Refused r
 
 abbrev pub prefixIn : ShortAnswer → PrefixShort
 prefixIn (ShortAnswer.Slice n) = prefixShort noPrefix
 prefixIn (ShortAnswer.«Prefix» p) = p
+prefixIn (ShortAnswer.Sequence v) = prefixShort noPrefix
+prefixIn (ShortAnswer.Picture v) = prefixShort noPrefix
 prefixIn (ShortAnswer.Other t) = prefixShort noPrefix
 prefixIn (ShortAnswer.Refused r) = prefixShort noPrefix
 
@@ -61,6 +69,8 @@ lentWords numbers signed l0 l1 marking w0 w1 base =
 abbrev pub after : UnitAnswer → UnitRead → Lent → Lent
 after (UnitAnswer.Slice n) u w = record { header = headerIn (u .header) (emptied (w .header)); base = w .base }
 after UnitAnswer.«Prefix» u w = record { header = w .header; base = sets (replicate 198 0) 0 (listWords (u .prefix .«base_marking»)) }
+after (UnitAnswer.Sequence v) u w = w
+after (UnitAnswer.Picture v) u w = w
 after (UnitAnswer.Other t) u w = w
 after (UnitAnswer.Refused r) u w = blank
 
@@ -83,10 +93,20 @@ abbrev pub bodyShort : PrefixStep → ShortAnswer
 bodyShort (PrefixStep.Got p c) = ShortAnswer.«Prefix» p
 bodyShort (PrefixStep.Refused r) = ShortAnswer.Refused r
 
+abbrev pub sequenceShort : SequenceSetStep → ShortAnswer
+sequenceShort (SequenceSetStep.Got v c) = ShortAnswer.Sequence v
+sequenceShort (SequenceSetStep.Refused r) = ShortAnswer.Refused r
+
+abbrev pub pictureShort : PictureSetStep → ShortAnswer
+pictureShort (PictureSetStep.Got v c) = ShortAnswer.Picture v
+pictureShort (PictureSetStep.Refused r) = ShortAnswer.Refused r
+
 -- the words, but beside a refusal, of which nothing is said
 abbrev pub Held : ShortAnswer → UnitRead → (before words : Lent) → Type 0
 Held (ShortAnswer.Slice n) u before words = words ≡ wordsAfter u before
 Held (ShortAnswer.«Prefix» p) u before words = words ≡ wordsAfter u before
+Held (ShortAnswer.Sequence v) u before words = words ≡ wordsAfter u before
+Held (ShortAnswer.Picture v) u before words = words ≡ wordsAfter u before
 Held (ShortAnswer.Other t) u before words = words ≡ wordsAfter u before
 Held (ShortAnswer.Refused r) u before words = Unit {0}
 

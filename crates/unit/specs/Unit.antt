@@ -12,10 +12,12 @@ use Rattle.syntax.specs.declared.context.UnitKind.{UnitKind}
 use Rattle.syntax.specs.declared.context.PrefixKind.{PrefixKind}
 use Rattle.syntax.specs.SliceHeader.{readHeader}
 use Rattle.syntax.specs.Prefix.{prefix}
+use Rattle.parameter_sets.specs.SequenceSet.{sequenceSet}
+use Rattle.parameter_sets.specs.PictureSet.{pictureSet}
 use Rattle.unit.specs.declared.answer.UnitAnswer.{UnitAnswer}
 use Rattle.unit.specs.declared.answer.UnitRead.{UnitRead}
 use Rattle.unit.specs.declared.begin.Begun.{Begun}
-use Rattle.unit.specs.Answer.{only, sliceAnswer, prefixAnswer}
+use Rattle.unit.specs.Answer.{only, sliceAnswer, prefixAnswer, sequenceAnswer, pictureAnswer}
 use Rattle.unit.specs.Begin.{begun}
 
 -- what is read, and scratch at exit
@@ -34,16 +36,24 @@ inBody reads unit from scratch =
     (record { read = reads (bytesBits (body 0 (drop from unit))); left = startWith (body 0 (drop from unit)) scratch })
     (untouched (UnitAnswer.Refused (refusal bufferTooShort (pos (length unit)))) scratch)
 
--- how the bits of a slice's body read, and of a prefix unit's
+-- how the bits of a slice's body read, of a prefix unit's and of a parameter set's
 unfoldable pub sliceBits : Table → UnitKind → Bits → UnitRead
 sliceBits t kind s = sliceAnswer (readHeader t kind s)
 
 unfoldable pub prefixBits : PrefixKind → Bits → UnitRead
 prefixBits kind s = prefixAnswer (prefix kind .read s 0)
 
+unfoldable pub sequenceBits : Bits → UnitRead
+sequenceBits s = sequenceAnswer (sequenceSet s 0)
+
+unfoldable pub pictureBits : Bits → UnitRead
+pictureBits s = pictureAnswer (pictureSet s 0)
+
 abbrev pub afterBegin : Table → List ℕ → List ℕ → Begun → UnitOut
 afterBegin t unit scratch (Begun.Slice kind from) = inBody (sliceBits t kind) unit from scratch
 afterBegin t unit scratch (Begun.«Prefix» kind) = inBody (prefixBits kind) unit 4 scratch
+afterBegin t unit scratch Begun.SequenceSet = inBody sequenceBits unit 1 scratch
+afterBegin t unit scratch Begun.PictureSet = inBody pictureBits unit 1 scratch
 afterBegin t unit scratch (Begun.Other id) = untouched (UnitAnswer.Other id) scratch
 afterBegin t unit scratch (Begun.Refused r) = untouched (UnitAnswer.Refused r) scratch
 

@@ -2,6 +2,8 @@
 use crate::into::ShortAnswer;
 use bits::refusals::Refusal;
 use lists::list_words::PrefixShort;
+use parameter_sets::picture::PictureSet;
+use parameter_sets::sequence::SequenceSet;
 use syntax::marks::MarkedFlag;
 use syntax::record::Prefix;
 use syntax::record::SliceHeader;
@@ -14,6 +16,9 @@ pub enum UnitAnswer {
     // a slice header, of so many bits
     Slice(usize),
     Prefix,
+    // a parameter set, with its id
+    Sequence(SequenceSet),
+    Picture(PictureSet),
     // a unit of another type
     Other(u8),
     Refused(Refusal),
@@ -32,6 +37,8 @@ pub(crate) fn long_answer(a: ShortAnswer) -> UnitAnswer
     match a {
         ShortAnswer::Slice(n) => UnitAnswer::Slice(n),
         ShortAnswer::Prefix(_) => UnitAnswer::Prefix,
+        ShortAnswer::Sequence(v) => UnitAnswer::Sequence(v),
+        ShortAnswer::Picture(v) => UnitAnswer::Picture(v),
         ShortAnswer::Other(id) => UnitAnswer::Other(id),
         ShortAnswer::Refused(r) => UnitAnswer::Refused(r),
     }
@@ -60,6 +67,8 @@ pub(crate) fn prefix_in(a: ShortAnswer) -> PrefixShort
     match a {
         ShortAnswer::Slice(_) => no_prefix(),
         ShortAnswer::Prefix(p) => p,
+        ShortAnswer::Sequence(_) => no_prefix(),
+        ShortAnswer::Picture(_) => no_prefix(),
         ShortAnswer::Other(_) => no_prefix(),
         ShortAnswer::Refused(_) => no_prefix(),
     }

@@ -15,13 +15,16 @@ use nal::header::header_of;
 use syntax::context::PrefixKind;
 use syntax::context::UnitKind;
 ghost use mathlib.Core.Path.{_≡_};
-ghost use Rattle.unit.specs.Begin.{absentExtension, hasExtension, prefixKind, extended, typed, begun};
+ghost use Rattle.unit.specs.Begin.{absentExtension, hasExtension, prefixKind, withoutExtension, extended, typed, begun};
 
 pub enum Begun {
     // a slice, and the place where its body starts
     Slice(UnitKind, usize),
     // a prefix unit, whose body starts after four bytes
     Prefix(PrefixKind),
+    // a parameter set, whose body starts after the first byte
+    SequenceSet,
+    PictureSet,
     // a unit of another type
     Other(u8),
     Refused(Refusal),
@@ -73,6 +76,19 @@ fn extended(h: NalHeader, e: NalHeaderExtension) -> Begun
     Begun::Slice(kind_of(h, e), 4)
 }
 
+// A parameter set, or a unit of another type.
+fn without_extension(t: u8) -> Begun
+    ensures { λ r. ⌜ r ≡ withoutExtension t ⌝ }
+{
+    if t == 7 {
+        return Begun::SequenceSet;
+    }
+    if t == 8 {
+        return Begun::PictureSet;
+    }
+    Begun::Other(t)
+}
+
 // A unit by its type.
 fn typed(unit: &[u8], h: NalHeader) -> Begun
     ensures { λ r. ⌜ r ≡ typed (now (unit .entry)) h ⌝ }
@@ -82,7 +98,7 @@ fn typed(unit: &[u8], h: NalHeader) -> Begun
         return Begun::Slice(kind_of(h, absent_extension()), 1);
     }
     if !has_extension(t) {
-        return Begun::Other(t);
+        return without_extension(t);
     }
     match extension_of(unit) {
         ExtensionRead::Got(e) => extended(h, e),

@@ -16,6 +16,12 @@ use lists::list_words::PrefixShort;
 use lists::list_words::PrefixStep;
 use lists::list_words::clear_list;
 use lists::list_words::prefix_into;
+use parameter_sets::picture::PictureSet;
+use parameter_sets::picture::PictureSetStep;
+use parameter_sets::picture::picture_set;
+use parameter_sets::sequence::SequenceSet;
+use parameter_sets::sequence::SequenceSetStep;
+use parameter_sets::sequence::sequence_set;
 use syntax::context::PrefixKind;
 use syntax::context::UnitKind;
 ghost use mathlib.Core.Path.{_≡_};
@@ -24,15 +30,18 @@ ghost use Prim.Native.Nat.{ℕ, _≤_};
 ghost use lib.ListN.{length};
 ghost use Rattle.bits.specs.Refusals.{limit};
 ghost use Rattle.header.specs.Lead.{tableOf};
-ghost use Rattle.unit.specs.Unit.{inBody, sliceBits, prefixBits, unitRead};
+ghost use Rattle.unit.specs.Unit.{inBody, sliceBits, prefixBits, sequenceBits, pictureBits, unitRead};
 ghost use Rattle.unit.specs.Head.{bodyRead};
 ghost use Rattle.header.specs.Short.{HeaderWords, headerWords};
-ghost use Rattle.unit.specs.Into.{lentWords, blank, sliceShort, bodyShort, Taken, ReadInto};
+ghost use Rattle.unit.specs.Into.{Lent, lentWords, blank, sliceShort, bodyShort, sequenceShort, pictureShort, Taken, ReadInto};
 
 pub enum ShortAnswer {
     // a slice header, of so many bits, which stands in the words
     Slice(usize),
     Prefix(PrefixShort),
+    // a parameter set, with its id
+    Sequence(SequenceSet),
+    Picture(PictureSet),
     // a unit of another type
     Other(u8),
     Refused(Refusal),
@@ -53,6 +62,24 @@ fn body_short(a: PrefixStep) -> ShortAnswer
     match a {
         PrefixStep::Got(p, _) => ShortAnswer::Prefix(p),
         PrefixStep::Refused(r) => ShortAnswer::Refused(r),
+    }
+}
+
+fn sequence_short(a: SequenceSetStep) -> ShortAnswer
+    ensures { λ r. ⌜ r ≡ sequenceShort a ⌝ }
+{
+    match a {
+        SequenceSetStep::Got(v, _) => ShortAnswer::Sequence(v),
+        SequenceSetStep::Refused(r) => ShortAnswer::Refused(r),
+    }
+}
+
+fn picture_short(a: PictureSetStep) -> ShortAnswer
+    ensures { λ r. ⌜ r ≡ pictureShort a ⌝ }
+{
+    match a {
+        PictureSetStep::Got(v, _) => ShortAnswer::Picture(v),
+        PictureSetStep::Refused(r) => ShortAnswer::Refused(r),
     }
 }
 
@@ -109,6 +136,27 @@ fn body_into(
     }
 }
 
+// The body of a parameter set, which goes to scratch.
+fn sequence_into(unit: &[u8], scratch: &mut [u8]) -> ShortAnswer
+    requires { ⌜ length (now unit) ≤ limit ⌝ }
+    ensures { λ r. ⌜ ((w : Lent) → Taken (inBody sequenceBits (now (unit .entry)) 1 (now (scratch .entry))) r (now (scratch .exit)) w w) ⌝ }
+{
+    match unescape(unit, 1, scratch) {
+        Body::Of(n) => sequence_short(sequence_set(&scratch[..n], Cursor { at: 0 })),
+        Body::Refused(r) => ShortAnswer::Refused(r),
+    }
+}
+
+fn picture_into(unit: &[u8], scratch: &mut [u8]) -> ShortAnswer
+    requires { ⌜ length (now unit) ≤ limit ⌝ }
+    ensures { λ r. ⌜ ((w : Lent) → Taken (inBody pictureBits (now (unit .entry)) 1 (now (scratch .entry))) r (now (scratch .exit)) w w) ⌝ }
+{
+    match unescape(unit, 1, scratch) {
+        Body::Of(n) => picture_short(picture_set(&scratch[..n], Cursor { at: 0 })),
+        Body::Refused(r) => ShortAnswer::Refused(r),
+    }
+}
+
 // A unit; of the words beside a refusal nothing is said.
 fn take<'a>(
     sequences: &'a [u32; 224],
@@ -143,6 +191,8 @@ fn take<'a>(
             w1,
         ),
         Begun::Prefix(kind) => body_into(unit, scratch, kind, base),
+        Begun::SequenceSet => sequence_into(unit, scratch),
+        Begun::PictureSet => picture_into(unit, scratch),
         Begun::Other(id) => ShortAnswer::Other(id),
         Begun::Refused(r) => ShortAnswer::Refused(r),
     }
@@ -198,6 +248,8 @@ fn read_into<'a>(
     ) {
         ShortAnswer::Slice(n) => ShortAnswer::Slice(n),
         ShortAnswer::Prefix(p) => ShortAnswer::Prefix(p),
+        ShortAnswer::Sequence(v) => ShortAnswer::Sequence(v),
+        ShortAnswer::Picture(v) => ShortAnswer::Picture(v),
         ShortAnswer::Other(id) => ShortAnswer::Other(id),
         ShortAnswer::Refused(r) => {
             clear_words(numbers, signed, l0, l1, marking, w0, w1, base);

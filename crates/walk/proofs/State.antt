@@ -2,7 +2,7 @@
 use mathlib.Core.Path.{_≡_, refl, sym, ap, _∙_}
 use mathlib.Core.List.{List, [], _∷_, _++_, map, append-nil}
 use mathlib.Core.Bool.{Bool, true, false}
-use Prim.Native.Nat.{ℕ, _+_, _≤_}
+use Prim.Native.Nat.{ℕ, suc, _+_, _≤_}
 use native.Mathlib.Omega.{arith}
 use lib.Dec.{leb}
 use borrow.Author.Tests.{lt-leb, leb-true}
@@ -24,6 +24,15 @@ sift-append {B} p (x ∷ xs) ys = go (p x) (sift-append p xs ys)
         → pick t (x ∷ sift p (xs ++ ys)) (sift p (xs ++ ys)) ≡ pick t (x ∷ sift p xs) (sift p xs) ++ sift p ys
     go true ih = ap (λ (zs : List B). x ∷ zs) ih
     go false ih = ih
+
+-- a start code that begins at k or later does not lie wholly before k
+apart-too : (k : ℕ) (us : List Span) → startsBefore k (startsFrom k us) ≡ []
+apart-too k [] = refl
+apart-too k (u ∷ us) = go (leb (k + 3) (u .place)) refl (apart-too k us)
+  where
+    go : (t : Bool) → leb (k + 3) (u .place) ≡ t → startsBefore k (startsFrom k us) ≡ [] → startsBefore k (pick t (u ∷ startsFrom k us) (startsFrom k us)) ≡ []
+    go true e ih = let l : k + 3 ≤ u .place = leb-true (k + 3) (u .place) e in rw (lt-leb (u .place) k (omega arith)) ih
+    go false e ih = ih
 
 -- a start code that lies wholly before k does not begin at k or later
 apart : (k : ℕ) (us : List Span) → startsFrom k (startsBefore k us) ≡ []
@@ -75,7 +84,28 @@ module _ {T A : Type 0} (step : T → List ℕ → T) (answer : T → List ℕ �
         go true e ih jh = rw (e, ih)
         go false e ih jh = jh
 
+    -- and as many
+    pub run-count : (t : T) (us : List Span) → length (sift of (run t us)) ≡ length (sift of us)
+    run-count t [] = refl
+    run-count t (u ∷ us) = go (of u) (run-count (step t (u .read)) us)
+      where
+        go : (b : Bool) → length (sift of (run (step t (u .read)) us)) ≡ length (sift of us)
+            → length (pick b (reportOf (answer t) u ∷ sift of (run (step t (u .read)) us)) (sift of (run (step t (u .read)) us))) ≡ length (pick b (u ∷ sift of us) (sift of us))
+        go true ih = ap suc ih
+        go false ih = ih
+
   -- ---- any list of units
+
+  -- the reports of the units before k are those of a walk over them alone
+  pub before-with : (t : T) (k : ℕ) (us : List Span) → Parted k us → startsBefore k (run t us) ≡ run t (startsBefore k us)
+  before-with t k us e =
+      let before = startsBefore k us in
+      let from = startsFrom k us in
+      let q : ℕ → ℕ → Bool = λ place next. leb place k in
+      ap (λ (vs : List Span). startsBefore k (run t vs)) e ∙ ap (startsBefore k) (run-append t before from)
+      ∙ sift-append (λ (r : Report A). leb (r .place) k) (run t before) (run (after t before) from)
+      ∙ ap (λ (rs : List (Report A)). rs ++ startsBefore k (run (after t before) from)) (run-all q t us)
+      ∙ ap (λ (rs : List (Report A)). run t before ++ rs) (run-none q (after t before) from (apart-too k us)) ∙ append-nil (run t before)
 
   -- where no start code lies across k: the reports from k on are those of the units from k on, in the state that those before leave
   pub late-with : (t : T) (k : ℕ) (us : List Span) → Parted k us → startsFrom k (run t us) ≡ run (after t (startsBefore k us)) (startsFrom k us)

@@ -45,11 +45,11 @@ module _ (s : List ℕ) (from : ℕ) where
 abbrev pub NoUnit : Step → Type 0
 NoUnit r = OneOf (1 ∷ 2 ∷ []) (tagOf the-type r)
 
--- what a step answers: a unit is read, else nothing is, and scratch is as it was
+-- what a step answers: a unit is read, else nothing is, and scratch and table are as they were
 abbrev pub byStep : Table → List ℕ → List ℕ → Step → WalkOut
-byStep t s scratch (Step.Unit p l n) = reading p l n (unitRead t (take l (drop p s)) scratch)
-byStep t s scratch Step.End = record { walked = nothing Step.End; left = scratch }
-byStep t s scratch (Step.Refused r) = record { walked = nothing (Step.Refused r); left = scratch }
+byStep t s scratch (Step.Unit p l n) = reading t p l n (unitRead t (take l (drop p s)) scratch)
+byStep t s scratch Step.End = record { walked = nothing Step.End; left = scratch; table = t }
+byStep t s scratch (Step.Refused r) = record { walked = nothing (Step.Refused r); left = scratch; table = t }
 
 module _ (t : Table) (s : List ℕ) (from : ℕ) (scratch : List ℕ) where
   pub by-step : walked t s from scratch ≡ byStep t s scratch (nextStep s from)
@@ -59,34 +59,34 @@ module _ (t : Table) (s : List ℕ) (from : ℕ) (scratch : List ℕ) where
       refused : Step
       refused = Step.Refused (refusal tooLarge (pos 0))
 
-      go : (b : Bool) (f : Found) → pick b (afterSearch t s scratch f) (record { walked = nothing refused; left = scratch }) ≡ byStep t s scratch (pick b (stepTo f) refused)
+      go : (b : Bool) (f : Found) → pick b (afterSearch t s scratch f) (record { walked = nothing refused; left = scratch; table = t }) ≡ byStep t s scratch (pick b (stepTo f) refused)
       go true (Found.At p l n) = refl
       go true Found.End = refl
       go false f = refl
 
   -- where the step is to no unit, nothing is read
-  pub none-read : {r : Step} → r ≡ nextStep s from → NoUnit r → walked t s from scratch ≡ record { walked = nothing r; left = scratch }
+  pub none-read : {r : Step} → r ≡ nextStep s from → NoUnit r → walked t s from scratch ≡ record { walked = nothing r; left = scratch; table = t }
   none-read {r} e k =
       let b : walked t s from scratch ≡ byStep t s scratch r = rw (← e) at by-step in
       b ∙ go r k
     where
-      go : (r : Step) → NoUnit r → byStep t s scratch r ≡ record { walked = nothing r; left = scratch }
+      go : (r : Step) → NoUnit r → byStep t s scratch r ≡ record { walked = nothing r; left = scratch; table = t }
       go (Step.Unit p l n) (inl e) = absurd (omega arith)
       go (Step.Unit p l n) (inr e) = absurd (omega arith)
       go Step.End k = refl
       go (Step.Refused w) k = refl
 
   module _ (small : length s ≤ limit) where
-    pub at-end : nextUnit s from ≡ Found.End → walked t s from scratch ≡ record { walked = nothing Step.End; left = scratch }
+    pub at-end : nextUnit s from ≡ Found.End → walked t s from scratch ≡ record { walked = nothing Step.End; left = scratch; table = t }
     unfolding walked
     at-end e = rw (le-leb (length s) limit small, e)
 
-    pub at-unit : {p l n : ℕ} → nextUnit s from ≡ Found.At p l n → walked t s from scratch ≡ reading p l n (unitRead t (take l (drop p s)) scratch)
+    pub at-unit : {p l n : ℕ} → nextUnit s from ≡ Found.At p l n → walked t s from scratch ≡ reading t p l n (unitRead t (take l (drop p s)) scratch)
     unfolding walked
     at-unit e = rw (le-leb (length s) limit small, e)
 
   -- the part that is lent is s[p .. p + l]
-  pub was-read : {p l n : ℕ} → nextStep s from ≡ Step.Unit p l n → walked t s from scratch ≡ reading p l n (unitRead t (take (p + l - p) (drop p s)) scratch)
+  pub was-read : {p l n : ℕ} → nextStep s from ≡ Step.Unit p l n → walked t s from scratch ≡ reading t p l n (unitRead t (take (p + l - p) (drop p s)) scratch)
   was-read {p} {l} e =
       let m : p + l - p ≡ l = omega arith in
       rw m (rw e at by-step)

@@ -9,7 +9,7 @@ use Rattle.unit.specs.declared.answer.UnitRead.{UnitRead}
 use Rattle.unit.specs.Unit.{unitRead}
 use Rattle.walk.specs.declared.walk.Step.{Step}
 use Rattle.walk.specs.Units.{Report}
-use Rattle.walk.specs.Walked.{WalkOut, nextStep, nothing}
+use Rattle.walk.specs.Walked.{WalkOut, tableAfter, nextStep, nothing}
 use Rattle.walk.specs.Reports.{andOn, reportsBy, reports}
 use Rattle.walk.proofs.Chain.{went}
 use Rattle.walk.proofs.Steps.{found-at, byStep, by-step}
@@ -18,25 +18,27 @@ use Rattle.walk.proofs.Steps.{found-at, byStep, by-step}
 abbrev pub Inside : List ℕ → Report UnitRead → Type 0
 Inside s u = (u .place + u .size ≤ u .next) × (u .next ≤ length s)
 
-module _ (t : Table) (s : List ℕ) (u : Report UnitRead) where
-  steps-within : (f from : ℕ) (scratch : List ℕ) → List·Memᴰ u (reportsBy f t s from scratch) → Inside s u
+module _ (s : List ℕ) (u : Report UnitRead) where
+  steps-within : (f : ℕ) (t : Table) (from : ℕ) (scratch : List ℕ) → List·Memᴰ u (reportsBy f s t from scratch) → Inside s u
   unfolding nothing
-  steps-within zero from scratch m = absurd (List·Memᴰ·not-nil m)
-  steps-within (suc f) from scratch m =
-      go (nextStep s from) refl (steps-within f) (subst (λ (w : WalkOut). List·Memᴰ u (andOn w (reportsBy f t s))) (by-step t s from scratch) m)
+  steps-within zero t from scratch m = absurd (List·Memᴰ·not-nil m)
+  steps-within (suc f) t from scratch m =
+      go (nextStep s from) refl (steps-within f) (subst (λ (w : WalkOut). List·Memᴰ u (andOn w (reportsBy f s))) (by-step t s from scratch) m)
     where
-      one : (p l n : ℕ) → nextStep s from ≡ Step.Unit p l n → (List·Memᴰ u (reportsBy f t s n (unitRead t (take l (drop p s)) scratch .left)) → Inside s u)
-          → (u ≡ record { place = p; size = l; next = n; read = unitRead t (take l (drop p s)) scratch .read })
-          ⊎ List·Memᴰ u (reportsBy f t s n (unitRead t (take l (drop p s)) scratch .left)) → Inside s u
+      on : (p l n : ℕ) → List (Report UnitRead)
+      on p l n = reportsBy f s (tableAfter t (unitRead t (take l (drop p s)) scratch .read .answer)) n (unitRead t (take l (drop p s)) scratch .left)
+
+      one : (p l n : ℕ) → nextStep s from ≡ Step.Unit p l n → (List·Memᴰ u (on p l n) → Inside s u)
+          → (u ≡ record { place = p; size = l; next = n; read = unitRead t (take l (drop p s)) scratch .read }) ⊎ List·Memᴰ u (on p l n) → Inside s u
       one p l n e ih (inl d) = let w = went s from p l n (found-at s from e) in rw d (w .inside, w .within)
       one p l n e ih (inr m) = ih m
 
-      go : (k : Step) → nextStep s from ≡ k → ((from : ℕ) (scratch : List ℕ) → List·Memᴰ u (reportsBy f t s from scratch) → Inside s u)
-          → List·Memᴰ u (andOn (byStep t s scratch k) (reportsBy f t s)) → Inside s u
-      go (Step.Unit p l n) e ih m = one p l n e (ih n (unitRead t (take l (drop p s)) scratch .left)) (List·Memᴰ·cases-cons m)
+      go : (k : Step) → nextStep s from ≡ k → ((t : Table) (from : ℕ) (scratch : List ℕ) → List·Memᴰ u (reportsBy f s t from scratch) → Inside s u)
+          → List·Memᴰ u (andOn (byStep t s scratch k) (reportsBy f s)) → Inside s u
+      go (Step.Unit p l n) e ih m = one p l n e (ih _ n (unitRead t (take l (drop p s)) scratch .left)) (List·Memᴰ·cases-cons m)
       go Step.End e ih m = absurd (List·Memᴰ·not-nil m)
       go (Step.Refused r) e ih m = absurd (List·Memᴰ·not-nil m)
 
   -- for every table, recording and scratch
-  pub reports-within : (scratch : List ℕ) → List·Memᴰ u (reports t scratch s) → Inside s u
-  reports-within scratch = steps-within (length s) 0 scratch
+  pub reports-within : (t : Table) (scratch : List ℕ) → List·Memᴰ u (reports t scratch s) → Inside s u
+  reports-within t scratch = steps-within (length s) t 0 scratch

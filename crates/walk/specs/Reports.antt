@@ -1,15 +1,17 @@
 -- The reports of a walk over a whole recording, and the parts of them that demand 3 speaks of.
 use Prim.Native.Nat.{ℕ, zero, suc, _+_, _-_}
 use mathlib.Core.List.{List, [], _∷_}
-use mathlib.Core.Bool.{Bool}
+use mathlib.Core.Bool.{Bool, true, false}
 use lib.Dec.{leb}
 use lib.ListN.{length}
 use Rattle.bits.specs.Refusals.{pick}
 use Rattle.table.specs.declared.table.Table.{Table}
+use Rattle.unit.specs.declared.answer.UnitAnswer.{UnitAnswer}
 use Rattle.unit.specs.declared.answer.UnitRead.{UnitRead}
+use Rattle.unit.specs.Unit.{unitRead}
 use Rattle.walk.specs.declared.walk.Step.{Step}
-use Rattle.walk.specs.Units.{Report}
-use Rattle.walk.specs.Walked.{WalkOut, walked}
+use Rattle.walk.specs.Units.{Report, Span}
+use Rattle.walk.specs.Walked.{WalkOut, tableAfter, walked}
 
 -- the report of a step, and those of the steps from where it says to go on
 abbrev pub onward : Step → UnitRead → (ℕ → List (Report UnitRead)) → List (Report UnitRead)
@@ -17,17 +19,25 @@ onward (Step.Unit place size next) read rest = record { place = place; size = si
 onward Step.End read rest = []
 onward (Step.Refused r) read rest = []
 
-abbrev pub andOn : WalkOut → (ℕ → List ℕ → List (Report UnitRead)) → List (Report UnitRead)
-andOn out rest = onward (out .walked .step) (out .walked .read) (λ next. rest next (out .left))
+abbrev pub andOn : WalkOut → (Table → ℕ → List ℕ → List (Report UnitRead)) → List (Report UnitRead)
+andOn out rest = onward (out .walked .step) (out .walked .read) (λ next. rest (out .table) next (out .left))
 
--- at most f steps, the first from `from`; each is lent scratch as the one before left it
-abbrev pub reportsBy : ℕ → Table → List ℕ → ℕ → List ℕ → List (Report UnitRead)
-reportsBy zero t s from scratch = []
-reportsBy (suc f) t s from scratch = andOn (walked t s from scratch) (reportsBy f t s)
+-- at most f steps over the recording s, the first from `from`; each is lent table and scratch as the one before left them
+abbrev pub reportsBy : ℕ → List ℕ → Table → ℕ → List ℕ → List (Report UnitRead)
+reportsBy zero s t from scratch = []
+reportsBy (suc f) s t from scratch = andOn (walked t s from scratch) (reportsBy f s)
 
 -- all reports of the recording s: it has no more units than bytes
 abbrev pub reports : Table → List ℕ → List ℕ → List (Report UnitRead)
-reports t scratch s = reportsBy (length s) t s 0 scratch
+reports t scratch s = reportsBy (length s) s t 0 scratch
+
+-- ---- the reports of a list of units: each is read by the table that those before it leave
+
+abbrev pub reportsOf : Table → List ℕ → List Span → List (Report UnitRead)
+reportsOf t scratch [] = []
+reportsOf t scratch (u ∷ us) =
+    let r = unitRead t (u .read) scratch .read in
+    record { place = u .place; size = u .size; next = u .next; read = r } ∷ reportsOf (tableAfter t (r .answer)) scratch us
 
 -- ---- parts of a list of reports
 
@@ -47,6 +57,27 @@ startsBefore {A} k rs = sift (λ (u : Report A). leb (u .place) k) rs
 -- those whose end mark lies wholly before k. A unit without one goes on from the recording's end, and is none of them
 abbrev pub endsBefore : {A : Type 0} → ℕ → List (Report A) → List (Report A)
 endsBefore {A} k rs = sift (λ (u : Report A). leb (u .next + 3) k) rs
+
+-- those of parameter sets that were read
+abbrev pub isSet : UnitAnswer → Bool
+isSet (UnitAnswer.Slice n) = false
+isSet UnitAnswer.«Prefix» = false
+isSet (UnitAnswer.Sequence v) = true
+isSet (UnitAnswer.Picture v) = true
+isSet (UnitAnswer.Other id) = false
+isSet (UnitAnswer.Refused r) = false
+
+abbrev pub setsAmong : List (Report UnitRead) → List (Report UnitRead)
+setsAmong rs = sift (λ (u : Report UnitRead). isSet (u .read .answer)) rs
+
+-- the table after units with these reports
+abbrev pub tableBy : Table → List (Report UnitRead) → Table
+tableBy t [] = t
+tableBy t (u ∷ us) = tableBy (tableAfter t (u .read .answer)) us
+
+-- the table with which a walk over the recording s comes to the place k
+abbrev pub tableAt : Table → List ℕ → List ℕ → ℕ → Table
+tableAt t scratch s k = tableBy t (startsBefore k (reports t scratch s))
 
 -- a report with its places counted from the recording's end, which is n
 abbrev pub toEnd : {A : Type 0} → ℕ → Report A → Report A

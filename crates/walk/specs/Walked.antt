@@ -1,4 +1,4 @@
--- One step of the walk (docs/RULES.md, 'The walk'): its answer, and scratch at exit.
+-- One step of the walk (docs/RULES.md, 'The walk'): its answer, and scratch and table at exit.
 use Prim.Native.Nat.{ℕ}
 use mathlib.Core.List.{List}
 use lib.Dec.{leb}
@@ -6,6 +6,7 @@ use lib.IntN.{pos}
 use lib.ListN.{length, take, drop}
 use Rattle.bits.specs.Refusals.{pick, refusal, tooLarge, limit}
 use Rattle.table.specs.declared.table.Table.{Table}
+use Rattle.table.specs.Tables.{putSequence, putPicture}
 use Rattle.unit.specs.declared.answer.UnitAnswer.{UnitAnswer}
 use Rattle.unit.specs.declared.answer.UnitRead.{UnitRead}
 use Rattle.unit.specs.Answer.{only}
@@ -19,10 +20,20 @@ pub record Walked : Type 0 where
   pub step : Step
   pub read : UnitRead
 
--- what is answered, and scratch at exit
+-- what is answered, and scratch and table at exit
 pub record WalkOut : Type 0 where
   pub walked : Walked
   pub left : List ℕ
+  pub table : Table
+
+-- the table after a unit: a set that was read is put in, and nothing else changes it
+abbrev pub tableAfter : Table → UnitAnswer → Table
+tableAfter t (UnitAnswer.Slice n) = t
+tableAfter t UnitAnswer.«Prefix» = t
+tableAfter t (UnitAnswer.Sequence v) = putSequence t (v .«seq_parameter_set_id») (v .sequence) .table
+tableAfter t (UnitAnswer.Picture v) = putPicture t (v .«pic_parameter_set_id») (v .picture) .table
+tableAfter t (UnitAnswer.Other id) = t
+tableAfter t (UnitAnswer.Refused r) = t
 
 -- what the search found, as a step
 abbrev pub stepTo : Found → Step
@@ -38,16 +49,17 @@ unfoldable pub nothing : Step → Walked
 nothing s = record { step = s; read = only (UnitAnswer.Other 0) }
 
 -- a step to a unit, and what reading it gives
-abbrev pub reading : ℕ → ℕ → ℕ → UnitOut → WalkOut
-reading place size next u = record { walked = record { step = Step.Unit place size next; read = u .read }; left = u .left }
+abbrev pub reading : Table → ℕ → ℕ → ℕ → UnitOut → WalkOut
+reading t place size next u =
+    record { walked = record { step = Step.Unit place size next; read = u .read }; left = u .left; table = tableAfter t (u .read .answer) }
 
--- a unit is read; at the end scratch is as it was
+-- a unit is read; at the end scratch and table are as they were
 abbrev pub afterSearch : Table → List ℕ → List ℕ → Found → WalkOut
-afterSearch t recording scratch (Found.At place size next) = reading place size next (unitRead t (take size (drop place recording)) scratch)
-afterSearch t recording scratch Found.End = record { walked = nothing Step.End; left = scratch }
+afterSearch t recording scratch (Found.At place size next) = reading t place size next (unitRead t (take size (drop place recording)) scratch)
+afterSearch t recording scratch Found.End = record { walked = nothing Step.End; left = scratch; table = t }
 
 -- 27 first
 unfoldable pub walked : Table → List ℕ → ℕ → List ℕ → WalkOut
 walked t recording from scratch =
     pick (leb (length recording) limit) (afterSearch t recording scratch (nextUnit recording from))
-    (record { walked = nothing (Step.Refused (refusal tooLarge (pos 0))); left = scratch })
+    (record { walked = nothing (Step.Refused (refusal tooLarge (pos 0))); left = scratch; table = t })

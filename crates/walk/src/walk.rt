@@ -1,10 +1,13 @@
-// The walk over a recording: the first unit from a place on, read by the parameter table. Asked again from where each answer says to go on, it meets every unit once.
+// The walk over a recording: the first unit from a place on, read by the parameter table, into which a parameter set goes as it is met. Asked again from where each
+// answer says to go on, it meets every unit once.
 use crate::search::Found;
 use crate::search::next_unit;
 use bits::refusals::LIMIT;
 use bits::refusals::Refusal;
 use bits::refusals::TOO_LARGE;
 use bits::refusals::refuse;
+use table::words::put_picture_in;
+use table::words::put_sequence_in;
 use unit::head::HeadRead;
 use unit::head::head;
 use unit::into::ShortAnswer;
@@ -12,9 +15,9 @@ use unit::into::clear_words;
 use unit::into::read_body_into;
 ghost use mathlib.Core.Path.{_≡_};
 ghost use Rattle.header.specs.Lead.{tableOf};
-ghost use Rattle.walk.specs.Walked.{nextStep, walked};
+ghost use Rattle.walk.specs.Walked.{nextStep, tableAfter, walked};
 ghost use Rattle.unit.specs.Unit.{unitRead};
-ghost use Rattle.unit.specs.Into.{lentWords, ReadInto};
+ghost use Rattle.unit.specs.Into.{longAnswer, lentWords, ReadInto};
 ghost use Rattle.walk.specs.WalkedInto.{WalkedInto};
 
 // What the walk came to: a unit's place, its length and the place to go on from; the end; or refusal 27.
@@ -87,10 +90,31 @@ fn in_turn<'a>(
     }
 }
 
-// One step, by the sets in a table's two arrays. Scratch and words are left as `in_turn` leaves them; where the step comes to no unit, all are untouched.
-pub fn walk_into<'a>(
-    sequences: &'a [u32; 224],
-    pictures: &'a [u32; 2304],
+// A set that was read goes into the table. It is within the rules' sizes, so no put of one is refused (`fits` in proofs/Kept.antt).
+fn keep_set(sequences: &mut [u32; 224], pictures: &mut [u32; 2304], answer: ShortAnswer)
+    ensures { λ _. ⌜ tableOf (now (sequences .exit)) (now (pictures .exit)) ≡ tableAfter (tableOf (now (sequences .entry)) (now (pictures .entry))) (longAnswer answer) ⌝ }
+{
+    match answer {
+        ShortAnswer::Sequence(v) => {
+            let s = v.sequence;
+            put_sequence_in(sequences, pictures, v.seq_parameter_set_id, s);
+        }
+        ShortAnswer::Picture(v) => {
+            let p = v.picture;
+            put_picture_in(sequences, pictures, v.pic_parameter_set_id, p);
+        }
+        ShortAnswer::Slice(_) => {}
+        ShortAnswer::Prefix(_) => {}
+        ShortAnswer::Other(_) => {}
+        ShortAnswer::Refused(_) => {}
+    }
+}
+
+// One step, by the sets in a table's two arrays, which a set that is read changes. Scratch and words are left as `in_turn` leaves them; where the step comes to no
+// unit, all are untouched.
+pub fn walk_into(
+    sequences: &mut [u32; 224],
+    pictures: &mut [u32; 2304],
     recording: &[u8],
     from: usize,
     scratch: &mut [u8],
@@ -103,7 +127,7 @@ pub fn walk_into<'a>(
     w1: &mut [i32; 256],
     base: &mut [u32; 198],
 ) -> WalkedShort
-    ensures { λ r. ⌜ WalkedInto (walked (tableOf (now (sequences .entry)) (now (pictures .entry))) (now (recording .entry)) from (now (scratch .entry))) r (now (scratch .exit)) (lentWords numbers signed l0 l1 marking w0 w1 base .entry) (lentWords numbers signed l0 l1 marking w0 w1 base .exit) ⌝ }
+    ensures { λ r. ⌜ WalkedInto (walked (tableOf (now (sequences .entry)) (now (pictures .entry))) (now (recording .entry)) from (now (scratch .entry))) r (now (scratch .exit)) (tableOf (now (sequences .exit)) (now (pictures .exit))) (lentWords numbers signed l0 l1 marking w0 w1 base .entry) (lentWords numbers signed l0 l1 marking w0 w1 base .exit) ⌝ }
 {
     let step = next_step(recording, from);
     let Step::Unit(place, length, _) = step else {
@@ -127,5 +151,6 @@ pub fn walk_into<'a>(
         w1,
         base,
     );
+    keep_set(sequences, pictures, answer);
     WalkedShort { step, answer }
 }

@@ -24,12 +24,16 @@ use Rattle.syntax.specs.declared.record.Prefix.{Prefix}
 use Rattle.syntax.specs.SliceHeader.{readHeader}
 use Rattle.syntax.specs.Prefix.{prefix}
 use Rattle.header.specs.Kinds.{isExtended, kindOf}
+use Rattle.parameter_sets.specs.declared.sequence.SequenceSet.{SequenceSet}
+use Rattle.parameter_sets.specs.declared.picture.PictureSet.{PictureSet}
+use Rattle.parameter_sets.specs.SequenceSet.{sequenceSet}
+use Rattle.parameter_sets.specs.PictureSet.{pictureSet}
 use Rattle.unit.specs.declared.answer.UnitAnswer.{UnitAnswer}
 use Rattle.unit.specs.declared.answer.UnitRead.{UnitRead}
 use Rattle.unit.specs.declared.begin.Begun.{Begun}
-use Rattle.unit.specs.Answer.{only, sliceAnswer, prefixAnswer}
-use Rattle.unit.specs.Begin.{absentExtension, typeIn, isPlain, hasExtension, extended, typed, withHeader, begun}
-use Rattle.unit.specs.Unit.{inBody, sliceBits, prefixBits, afterBegin, unitRead}
+use Rattle.unit.specs.Answer.{only, sliceAnswer, prefixAnswer, sequenceAnswer, pictureAnswer}
+use Rattle.unit.specs.Begin.{absentExtension, typeIn, isPlain, hasExtension, extended, withoutExtension, typed, withHeader, begun}
+use Rattle.unit.specs.Unit.{inBody, sliceBits, prefixBits, sequenceBits, pictureBits, afterBegin, unitRead}
 use Rattle.unit.proofs.Cases.{begun-small}
 use Rattle.writer.specs.declared.given.ExtensionGiven.{ExtensionGiven}
 use Rattle.writer.specs.declared.given.KindGiven.{KindGiven}
@@ -73,11 +77,16 @@ never-of q = absurd (let z : _≡_ {A = ℕ} 0 1 = (cc q) in omega arith)
 abbrev isSlice : Begun → Bool
 isSlice (Begun.Slice k from) = true
 isSlice (Begun.«Prefix» kind) = false
+isSlice Begun.SequenceSet = false
+isSlice Begun.PictureSet = false
 isSlice (Begun.Other id) = false
 isSlice (Begun.Refused r) = false
 
 never-slice : {P : Type 0} {a : Begun} {k : UnitKind} {from : ℕ} → a ≡ Begun.Slice k from → isSlice a ≡ false → P
 never-slice q e = absurd (true≢false (sym (ap isSlice q) ∙ e))
+
+none-other : (t : ℕ) → isSlice (withoutExtension t) ≡ false
+none-other t = cases (eqb t 7) (λ i. rw i) (λ i. rw i (cases (eqb t 8) (λ j. rw j) (λ j. rw j)))
 
 -- ---- what is told of the unit, and its first bytes
 
@@ -211,7 +220,7 @@ by-extension b w {k} {from} p a =
     let j : 4 ≡ from = (cc (rw (p, i, l, r) at a)) in
     subst (λ (n : ℕ). Starts b (extensionIn (b ∷ w)) (b ∷ w) (drop n (b ∷ w))) j (four b w (leb-true 4 (length (b ∷ w)) l) (rw r at i))))
     (λ l. never-slice (rw (p, i, l) at a) refl))
-    (λ i. never-slice (rw (p, i) at a) refl)
+    (λ i. never-slice (rw (p, i) at a) (none-other t))
 
 -- a unit that begins as a slice starts with them
 pub starts : (u : List ℕ) {k : UnitKind} {from : ℕ} → begun u ≡ Begun.Slice k from → Starts (firstOf u) (extensionIn u) u (drop from u)
@@ -237,16 +246,34 @@ bodyBits w = bytesBits (body 0 w)
 abbrev isSliceAnswer : UnitAnswer → Bool
 isSliceAnswer (UnitAnswer.Slice n) = true
 isSliceAnswer UnitAnswer.«Prefix» = false
+isSliceAnswer (UnitAnswer.Sequence v) = false
+isSliceAnswer (UnitAnswer.Picture v) = false
 isSliceAnswer (UnitAnswer.Other id) = false
 isSliceAnswer (UnitAnswer.Refused r) = false
 
 never-answer : {P : Type 0} {a : UnitAnswer} {e : ℕ} → a ≡ UnitAnswer.Slice e → isSliceAnswer a ≡ false → P
 never-answer q i = absurd (true≢false (sym (ap isSliceAnswer q) ∙ i))
 
-no-slice : (m : Res Prefix) → isSliceAnswer (prefixAnswer m .answer) ≡ false
+prefix-none : (m : Res Prefix) → isSliceAnswer (prefixAnswer m .answer) ≡ false
 unfolding only
-no-slice (got p e) = refl
-no-slice (no r) = refl
+prefix-none (got p e) = refl
+prefix-none (no r) = refl
+
+sequence-none : (m : Res SequenceSet) → isSliceAnswer (sequenceAnswer m .answer) ≡ false
+unfolding only
+sequence-none (got v e) = refl
+sequence-none (no r) = refl
+
+picture-none : (m : Res PictureSet) → isSliceAnswer (pictureAnswer m .answer) ≡ false
+unfolding only
+picture-none (got v e) = refl
+picture-none (no r) = refl
+
+-- a body that holds no slice
+never-body : {P : Type 0} (reads : Bits → UnitRead) (u : List ℕ) (from : ℕ) (scratch : List ℕ) {e : ℕ} → inBody reads u from scratch .read .answer ≡ UnitAnswer.Slice e
+    → isSliceAnswer (reads (bodyBits (drop from u)) .answer) ≡ false → P
+unfolding only inBody
+never-body reads u from scratch a n = cases (leb (length u) (length scratch)) (λ l. never-answer (rw l at a) n) (λ l. never-answer (rw l at a) refl)
 
 -- a slice was read, with header h of e bits
 pub record SliceRead (t : Table) (u : List ℕ) (h : SliceHeader) (e : ℕ) : Type 0 where
@@ -273,15 +300,14 @@ module _ (t : Table) (u scratch : List ℕ) where
     of-result q (no x) r a b = absurd (let z : _≡_ {A = ℕ} 0 1 = (cc a) in omega arith)
 
     of-begun : (y : Begun) → begun u ≡ y → afterBegin t u scratch y .read .answer ≡ UnitAnswer.Slice e → afterBegin t u scratch y .read .header ≡ h → SliceRead t u h e
-    unfolding only inBody sliceBits prefixBits
+    unfolding only inBody sliceBits prefixBits sequenceBits pictureBits
     of-begun (Begun.Slice k from) q a b =
         cases (leb (length u) (length scratch))
         (λ l. of-result q (readHeader t k (bodyBits (drop from u))) refl (rw l at a) (rw l at b))
         (λ l. never-answer (rw l at a) refl)
-    of-begun (Begun.«Prefix» kind) q a b =
-        cases (leb (length u) (length scratch))
-        (λ l. never-answer (rw l at a) (no-slice (prefix kind .read (bodyBits (drop 4 u)) 0)))
-        (λ l. never-answer (rw l at a) refl)
+    of-begun (Begun.«Prefix» kind) q a b = never-body (prefixBits kind) u 4 scratch a (prefix-none (prefix kind .read (bodyBits (drop 4 u)) 0))
+    of-begun Begun.SequenceSet q a b = never-body sequenceBits u 1 scratch a (sequence-none (sequenceSet (bodyBits (drop 1 u)) 0))
+    of-begun Begun.PictureSet q a b = never-body pictureBits u 1 scratch a (picture-none (pictureSet (bodyBits (drop 1 u)) 0))
     of-begun (Begun.Other id) q a b = never-answer a refl
     of-begun (Begun.Refused r) q a b = never-answer a refl
 

@@ -18,7 +18,7 @@ struct Report {
     /// How many bytes it has.
     #[pyo3(get)]
     length: u64,
-    /// 'slice', 'prefix', 'other' or 'refused'
+    /// 'slice', 'prefix', 'sps', 'pps', 'other' or 'refused'
     #[pyo3(get)]
     answer: &'static str,
     #[pyo3(get)]
@@ -41,8 +41,14 @@ struct Report {
     slice_type: Option<u32>,
     #[pyo3(get)]
     family: Option<String>,
+    /// Of a slice the picture set that it names, of a set its own id.
     #[pyo3(get)]
     pic_parameter_set_id: Option<u32>,
+    #[pyo3(get)]
+    seq_parameter_set_id: Option<u32>,
+    /// A parameter set as the word of a table, such as those of SAMPLE.
+    #[pyo3(get)]
+    word: Option<String>,
     #[pyo3(get)]
     frame_num: Option<u16>,
     #[pyo3(get)]
@@ -50,7 +56,7 @@ struct Report {
     /// The header's length in bits.
     #[pyo3(get)]
     bits: Option<usize>,
-    /// The final QP: 26 + pic_init_qp_minus26 + slice_qp_delta.
+    /// The final QP, by the sets that the slice was read by: 26 + pic_init_qp_minus26 + slice_qp_delta.
     #[pyo3(get)]
     qp: Option<i64>,
 }
@@ -76,7 +82,7 @@ impl Report {
     }
 }
 
-fn report(table: &Table, r: &StreamReport<'_>) -> Report {
+fn report(r: &StreamReport<'_>) -> Report {
     let (place, length) = (r.place, r.length);
     let plain = Report {
         place,
@@ -94,10 +100,11 @@ fn report(table: &Table, r: &StreamReport<'_>) -> Report {
                 slice_type: Some(header.slice_type.id()),
                 family: Some(format!("{:?}", header.slice_type.family)),
                 pic_parameter_set_id: Some(header.pic_parameter_set_id),
+                seq_parameter_set_id: Some(header.seq_parameter_set_id),
                 frame_num: Some(header.frame_num),
                 slice_qp_delta: Some(header.slice_qp_delta),
                 bits: Some(slice.bits),
-                qp: slice.qp(table),
+                qp: Some(slice.qp),
                 ..plain
             }
         }
@@ -105,6 +112,21 @@ fn report(table: &Table, r: &StreamReport<'_>) -> Report {
             answer: "prefix",
             nal_unit_type: Some(14),
             nal_ref_idc: Some(prefix.nal_header.nal_ref_idc()),
+            ..plain
+        },
+        Ok(Unit::Sequence(set)) => Report {
+            answer: "sps",
+            nal_unit_type: Some(7),
+            seq_parameter_set_id: Some(set.seq_parameter_set_id),
+            word: Some(set.to_string()),
+            ..plain
+        },
+        Ok(Unit::Picture(set)) => Report {
+            answer: "pps",
+            nal_unit_type: Some(8),
+            pic_parameter_set_id: Some(set.pic_parameter_set_id),
+            seq_parameter_set_id: Some(set.picture.seq_parameter_set_id),
+            word: Some(set.to_string()),
             ..plain
         },
         Ok(Unit::Other(kind)) => Report {
@@ -200,8 +222,8 @@ fn kind(unit: &StreamHead<'_>) -> Kind {
 /// A recording's file, its front looked at.
 type Recording = Stream<Chain<Cursor<Vec<u8>>, File>>;
 
-/// The recording, and its name for messages.
-fn open(path: &Path) -> PyResult<(Recording, String)> {
+/// The recording, by a table to start with, and its name for messages.
+fn open(path: &Path, table: Table) -> PyResult<(Recording, String)> {
     let name = path.display().to_string();
     let failed = |e| PyOSError::new_err(format!("{name}: {e}"));
     let mut file = File::open(path).map_err(failed)?;
@@ -211,7 +233,8 @@ fn open(path: &Path) -> PyResult<(Recording, String)> {
     if let Some(told) = container(&front, whole) {
         return Err(PyValueError::new_err(format!("{name}: {told}")));
     }
-    Ok((Stream::new(Cursor::new(front).chain(file)), name))
+    let source = Cursor::new(front).chain(file);
+    Ok((Stream::with_table(source, table), name))
 }
 
 /// The kinds of a recording's units, one after the other.
@@ -240,28 +263,20 @@ impl Kinds {
 #[pyclass(module = "tuzmarghil")]
 struct Reports {
     stream: Recording,
-    table: Table,
     name: String,
 }
 
 impl Reports {
     fn open(path: &Path, table: Option<&str>) -> PyResult<Reports> {
-        let (stream, name) = open(path)?;
-        Ok(Reports {
-            stream,
-            table: table_of(table)?,
-            name,
-        })
+        let (stream, name) = open(path, table_of(table)?)?;
+        Ok(Reports { stream, name })
     }
 
-    fn step<T>(
-        &mut self,
-        take: impl FnOnce(&Table, &StreamReport<'_>) -> T,
-    ) -> PyResult<Option<T>> {
-        let (table, name) = (&self.table, &self.name);
-        let step = self.stream.next(table);
+    fn step<T>(&mut self, take: impl FnOnce(&StreamReport<'_>) -> T) -> PyResult<Option<T>> {
+        let name = &self.name;
+        let step = self.stream.next_unit();
         let step = step.map_err(|e| PyOSError::new_err(format!("{name}: {e}")))?;
-        Ok(step.map(|r| take(table, &r)))
+        Ok(step.map(|r| take(&r)))
     }
 }
 
@@ -294,17 +309,17 @@ fn table_of(words: Option<&str>) -> PyResult<Table> {
     Ok(table)
 }
 
-/// The units of a recording with start codes, as an iterator of plain objects. `table` is the text of its parameter sets, such as SAMPLE; without it slices are
-/// refused with 9.
+/// The units of a recording with start codes, as an iterator of plain objects. Its parameter sets are read as they come; `table` is the text of sets to start with, such
+/// as SAMPLE, for a recording that lacks them.
 #[pyfunction]
 fn reports(path: PathBuf, table: Option<&str>) -> PyResult<Reports> {
     Reports::open(&path, table)
 }
 
-/// The kinds of a recording's units, as an iterator of plain objects: what their first bytes say. No table is needed, and bodies are not read.
+/// The kinds of a recording's units, as an iterator of plain objects: what their first bytes say. Bodies are not read.
 #[pyfunction]
 fn kinds(path: PathBuf) -> PyResult<Kinds> {
-    let (stream, name) = open(&path)?;
+    let (stream, name) = open(&path, Table::new())?;
     Ok(Kinds { stream, name })
 }
 
@@ -313,8 +328,8 @@ fn kinds(path: PathBuf) -> PyResult<Kinds> {
 fn qp(py: Python<'_>, path: PathBuf, table: Option<&str>) -> PyResult<PyObject> {
     let mut all = Reports::open(&path, table)?;
     let mut bytes = Vec::new();
-    let of = |table: &Table, r: &StreamReport<'_>| match r.unit() {
-        Ok(Unit::Slice(slice)) => Some(slice.qp(table).map_or(f64::NAN, |qp| qp as f64)),
+    let of = |r: &StreamReport<'_>| match r.unit() {
+        Ok(Unit::Slice(slice)) => Some(slice.qp as f64),
         Ok(_) => None,
         Err(_) => Some(f64::NAN),
     };

@@ -1,8 +1,10 @@
 //! What reading a unit answers, as named fields in reading order: one list, which every form is written from.
 
+use std::fmt::Display;
 use tuzmarghil::raw::{self, ReadOut, Weight, Weights, Words};
 use tuzmarghil::raw::{HeaderShort, List, MarkedFlag, MarkedNumber, MarkedSigned, PrefixShort};
-use tuzmarghil::{NalHeaderExtension, Refusal, Table, UnitHead};
+use tuzmarghil::{NalHeaderExtension, PicParameterSet, Refusal, SeqParameterSet};
+use tuzmarghil::{Table, UnitHead};
 
 /// The names of slice types, modulo 5.
 pub const FAMILIES: [&str; 5] = ["P", "B", "I", "SP", "SI"];
@@ -26,13 +28,17 @@ pub enum Value<'a> {
 
 /// A form in which an answer is written.
 pub trait Form {
-    /// `slice`, `prefix`, `other` or `refused`.
+    /// `slice`, `prefix`, `sps`, `pps`, `other` or `refused`.
     fn kind(&mut self, kind: &'static str);
     /// A field that goes with it.
     fn field(&mut self, name: &'static str, value: Value<'_>);
     /// A field that `tuz cases` does not tell.
     fn more(&mut self, name: &'static str, value: Value<'_>) {
         self.field(name, value);
+    }
+    /// A set as one word, where the form has it so; else its fields are asked for.
+    fn word(&mut self, _: &dyn Display) -> bool {
+        false
     }
     /// Why the unit is refused.
     fn refusal(&mut self, why: Refusal) {
@@ -46,7 +52,7 @@ pub trait Form {
 }
 
 /// Every name that a field can have, in reading order.
-pub const NAMES: [&str; 65] = [
+pub const NAMES: [&str; 85] = [
     "type",
     "refusal",
     "value",
@@ -112,10 +118,30 @@ pub const NAMES: [&str; 65] = [
     "ref_pic_list_modification_flag_l1",
     "bits",
     "qp",
+    "chroma_format_idc",
+    "separate_colour_plane_flag",
+    "bit_depth_luma_minus8",
+    "log2_max_frame_num",
+    "pic_order_cnt_type",
+    "log2_max_pic_order_cnt_lsb_minus4",
+    "delta_pic_order_always_zero_flag",
+    "frame_mbs_only_flag",
+    "pic_size_in_map_units",
+    "entropy_coding_mode_flag",
+    "bottom_field_pic_order_in_frame_present_flag",
+    "num_ref_idx_l0_default_active_minus1",
+    "num_ref_idx_l1_default_active_minus1",
+    "weighted_pred_flag",
+    "weighted_bipred_idc",
+    "pic_init_qp_minus26",
+    "pic_init_qs_minus26",
+    "deblocking_filter_control_present_flag",
+    "redundant_pic_cnt_present_flag",
+    "slice_group_change_rate",
 ];
 
 /// Those of `tuz list`.
-pub const LIST: [&str; 10] = [
+pub const LIST: [&str; 12] = [
     "type",
     "refusal",
     "value",
@@ -124,6 +150,8 @@ pub const LIST: [&str; 10] = [
     "ext",
     "slice_type",
     "family",
+    "pic_parameter_set_id",
+    "seq_parameter_set_id",
     "frame_num",
     "qp",
 ];
@@ -197,6 +225,8 @@ pub fn write(unit: &[u8], out: &ReadOut, words: &Words, qp: Option<i64>, form: &
             to.first_byte(unit, false);
             to.prefix(&out.prefix, words);
         }
+        4 => to.sequence(&out.sequence_set()),
+        5 => to.picture(&out.picture_set()),
         _ => to.refused(out),
     }
 }
@@ -220,6 +250,14 @@ pub fn brief(unit: &[u8], out: &ReadOut, slice: &Slice, form: &mut impl Form) {
                 Some(NalHeaderExtension::Svc(_))
             );
             to.put("ext", Value::Word(if svc { "svc" } else { "mvc" }));
+        }
+        4 => {
+            to.0.kind("sps");
+            to.number("seq_parameter_set_id", out.number);
+        }
+        5 => {
+            to.0.kind("pps");
+            to.number("pic_parameter_set_id", out.number);
         }
         _ => to.refused(out),
     }
@@ -326,6 +364,66 @@ impl<F: Form> Fields<'_, F> {
                 self.flag("output_flag", e.output_flag());
             }
         }
+    }
+
+    fn sequence(&mut self, set: &SeqParameterSet) {
+        self.0.kind("sps");
+        if self.0.word(set) {
+            return;
+        }
+        let s = &set.sequence;
+        self.number("seq_parameter_set_id", set.seq_parameter_set_id);
+        self.number("chroma_format_idc", s.chroma_format_idc);
+        self.flag("separate_colour_plane_flag", s.separate_colour_plane_flag);
+        self.number("bit_depth_luma_minus8", s.bit_depth_luma_minus8);
+        self.number("log2_max_frame_num", s.log2_max_frame_num);
+        self.number("pic_order_cnt_type", s.pic_order_cnt_type);
+        self.number(
+            "log2_max_pic_order_cnt_lsb_minus4",
+            s.log2_max_pic_order_cnt_lsb_minus4,
+        );
+        self.flag(
+            "delta_pic_order_always_zero_flag",
+            s.delta_pic_order_always_zero_flag,
+        );
+        self.flag("frame_mbs_only_flag", s.frame_mbs_only_flag);
+        self.number("pic_size_in_map_units", s.pic_size_in_map_units);
+    }
+
+    fn picture(&mut self, set: &PicParameterSet) {
+        self.0.kind("pps");
+        if self.0.word(set) {
+            return;
+        }
+        let p = &set.picture;
+        self.number("pic_parameter_set_id", set.pic_parameter_set_id);
+        self.number("seq_parameter_set_id", p.seq_parameter_set_id);
+        self.flag("entropy_coding_mode_flag", p.entropy_coding_mode_flag);
+        self.flag(
+            "bottom_field_pic_order_in_frame_present_flag",
+            p.bottom_field_pic_order_in_frame_present_flag,
+        );
+        self.number(
+            "num_ref_idx_l0_default_active_minus1",
+            p.num_ref_idx_l0_default_active_minus1,
+        );
+        self.number(
+            "num_ref_idx_l1_default_active_minus1",
+            p.num_ref_idx_l1_default_active_minus1,
+        );
+        self.flag("weighted_pred_flag", p.weighted_pred_flag);
+        self.number("weighted_bipred_idc", p.weighted_bipred_idc);
+        self.number("pic_init_qp_minus26", p.pic_init_qp_minus26);
+        self.number("pic_init_qs_minus26", p.pic_init_qs_minus26);
+        self.flag(
+            "deblocking_filter_control_present_flag",
+            p.deblocking_filter_control_present_flag,
+        );
+        self.flag(
+            "redundant_pic_cnt_present_flag",
+            p.redundant_pic_cnt_present_flag,
+        );
+        self.number("slice_group_change_rate", p.slice_group_change_rate);
     }
 
     fn prefix(&mut self, p: &PrefixShort, words: &Words) {
@@ -665,6 +763,8 @@ mod tests {
             (1, [0x74, 0, 0, 0]),
             (2, [0x6E, 0x80, 0, 0]),
             (3, [0, 0, 0, 0]),
+            (4, [0x67, 0, 0, 0]),
+            (5, [0x68, 0, 0, 0]),
         ] {
             out.answer = answer;
             write(&unit, &out, &words, Some(0), &mut order);

@@ -7,8 +7,9 @@ use std::fmt::Write;
 struct Refused(u32, &'static str, &'static str, &'static str);
 
 const TORN: &str = "the unit is damaged";
+const OTHER_SETS: &str = "the unit is damaged, or a parameter set before it is lost or damaged";
 
-const REFUSALS: [Refused; 28] = [
+const REFUSALS: [Refused; 29] = [
     Refused(
         1,
         "the unit has no byte",
@@ -56,20 +57,20 @@ const REFUSALS: [Refused; 28] = [
         9,
         "the picture set is not in the table",
         "its id",
-        "no table is given, or not this camera's; else the unit is damaged",
+        "the recording begins behind its sets, or one is lost or damaged; else the unit is damaged",
     ),
     Refused(
         10,
         "the sequence set that the picture set names is not in the table",
         "its id",
-        "the table lacks an sps word",
+        "the sequence set is lost or damaged, or comes later",
     ),
     Refused(11, "colour_plane_id is 3", "3", TORN),
     Refused(
         12,
         "modification_of_pic_nums_idc is over 5, or 4 or 5 in a slice that is not MVC",
         "modification_of_pic_nums_idc",
-        "the unit is damaged, or its table is not this camera's",
+        OTHER_SETS,
     ),
     Refused(
         13,
@@ -82,37 +83,37 @@ const REFUSALS: [Refused; 28] = [
         15,
         "memory_management_control_operation is over 6",
         "memory_management_control_operation",
-        "the unit is damaged, or its table is not this camera's",
+        OTHER_SETS,
     ),
     Refused(
         16,
         "slice_qp_delta takes QP out of its range",
         "slice_qp_delta",
-        "the unit is damaged, or its table is not this camera's",
+        OTHER_SETS,
     ),
     Refused(
         17,
         "slice_qs_delta takes QS out of its range",
         "slice_qs_delta",
-        "the unit is damaged, or its table is not this camera's",
+        OTHER_SETS,
     ),
     Refused(
         18,
         "disable_deblocking_filter_idc is over 6",
         "disable_deblocking_filter_idc",
-        "the unit is damaged, or its table is not this camera's",
+        OTHER_SETS,
     ),
     Refused(
         19,
         "slice_alpha_c0_offset_div2 is not from -6 to 6",
         "slice_alpha_c0_offset_div2",
-        "the unit is damaged, or its table is not this camera's",
+        OTHER_SETS,
     ),
     Refused(
         20,
         "slice_beta_offset_div2 is not from -6 to 6",
         "slice_beta_offset_div2",
-        "the unit is damaged, or its table is not this camera's",
+        OTHER_SETS,
     ),
     Refused(
         21,
@@ -157,6 +158,12 @@ const REFUSALS: [Refused; 28] = [
         "start codes are missing, or this is no H.264",
     ),
     Refused(
+        28,
+        "a parameter set's field is out of its range",
+        "0",
+        "the set is damaged; it leaves the table as it was",
+    ),
+    Refused(
         34,
         "the head is not the unit's own",
         "0",
@@ -171,7 +178,7 @@ fn place(number: u32) -> &'static str {
         13 => "where list modification would begin",
         14 => "where the 67th code begins",
         22 => "where the header ends",
-        5..=23 => "where the field begins",
+        5..=23 | 28 => "where the field begins",
         _ => "none",
     }
 }
@@ -186,7 +193,7 @@ pub fn told(number: Option<u32>) -> Result<String> {
             }
         }
         Some(number) => match REFUSALS.iter().find(|r| r.0 == number) {
-            None => bail!("{number} is no refusal: they are 1 to 27 and 34"),
+            None => bail!("{number} is no refusal: they are 1 to 28 and 34"),
             Some(Refused(n, why, value, often)) => {
                 let bit = place(*n);
                 let _ = write!(
@@ -208,7 +215,7 @@ mod tests {
     #[test]
     fn every_number_is_explained() {
         let numbers: Vec<_> = REFUSALS.iter().map(|r| r.0).collect();
-        assert_eq!(numbers, (1..=27).chain([34]).collect::<Vec<_>>());
+        assert_eq!(numbers, (1..=28).chain([34]).collect::<Vec<_>>());
         for n in 0..256 {
             let explained = Refusal::new(n, 7).reason() != "value 7";
             assert_eq!(numbers.contains(&n), explained, "{n}");

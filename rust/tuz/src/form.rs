@@ -2,6 +2,7 @@
 
 use crate::answer::{number, Form, Value};
 use clap::ValueEnum;
+use std::fmt::Display;
 use tuzmarghil::Refusal;
 
 #[derive(Clone, Copy, PartialEq, Eq, ValueEnum)]
@@ -39,6 +40,14 @@ impl Form for Text<'_> {
         if self.more {
             self.field(name, value);
         }
+    }
+
+    /// `tuz cases` tells a set by its word.
+    fn word(&mut self, set: &dyn Display) -> bool {
+        if !self.more {
+            self.to.extend_from_slice(format!(" {set}").as_bytes());
+        }
+        !self.more
     }
 
     fn refusal(&mut self, why: Refusal) {

@@ -23,15 +23,15 @@ const LONG: u64 = 32 << 20;
 /// The greatest length of a table file: 288 sets have less than 20 KB.
 const TABLE: u64 = 1 << 20;
 
-/// A recording, and the sets that its slices name.
+/// A recording, and the sets that the walk starts with.
 #[derive(Args)]
 pub struct Clip {
     /// The recording, with start codes; `-` is standard input
     clip: PathBuf,
-    /// Parameter sets: a file of `sps:` and `pps:` words, separated by white space
+    /// Parameter sets to start with, for a recording that lacks them: a file of `sps:` and `pps:` words, separated by white space
     #[arg(long, value_name = "FILE", conflicts_with = "sample")]
     table: Option<PathBuf>,
-    /// The sample sets: 4:2:0, 8 bit, frames only, 99 map units
+    /// The sample sets to start with: 4:2:0, 8 bit, frames only, 99 map units
     #[arg(long)]
     sample: bool,
     /// Read it as a byte stream whatever it looks like
@@ -99,11 +99,6 @@ impl Clip {
         }
     }
 
-    /// Whether any sets are given.
-    pub fn has_table(&self) -> bool {
-        self.sample || self.table.is_some()
-    }
-
     /// The recording, once its beginning looks like one.
     pub fn open(&self) -> Result<Recording> {
         let mut source = open(&self.clip)?;
@@ -153,8 +148,9 @@ pub struct Recording {
 }
 
 impl Recording {
-    /// Hands each unit to `each`, with a bar on a terminal where the recording is long and the lines go elsewhere. Gives its length in bytes.
-    pub fn units(self, quiet: bool, each: &mut impl Each) -> Result<u64> {
+    /// Hands each unit to `each`, by a table to start with, and with a bar on a terminal where the recording is long and the lines go elsewhere. Gives its length in
+    /// bytes.
+    pub fn units(self, table: Table, quiet: bool, each: &mut impl Each) -> Result<u64> {
         let bar = match self.length {
             0..=LONG => ProgressBar::hidden(),
             // the lines themselves show it
@@ -165,7 +161,7 @@ impl Recording {
             }
         };
         let (name, mut told) = (self.name.clone(), 0);
-        let mut stream = Stream::new(self);
+        let mut stream = Stream::with_table(self, table);
         while each.wanted() {
             stop::check()?;
             if each.unit(&mut stream)? {

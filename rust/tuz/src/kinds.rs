@@ -8,7 +8,7 @@ use crate::Ending;
 use anyhow::Result;
 use std::fmt::Write;
 use tuzmarghil::raw;
-use tuzmarghil::{Stream, StreamHead};
+use tuzmarghil::{Stream, StreamHead, Table};
 
 /// Runs it; the exit status.
 pub fn run(clip: &Clip, format: Format, ending: &Ending, out: &mut Stdout) -> Result<u8> {
@@ -24,7 +24,7 @@ pub fn run(clip: &Clip, format: Format, ending: &Ending, out: &mut Stdout) -> Re
         within: 0,
         out,
     };
-    let bytes = recording.units(ending.quiet, &mut kinds)?;
+    let bytes = recording.units(Table::new(), ending.quiet, &mut kinds)?;
     if !kinds.wanted() {
         return Ok(0);
     }

@@ -9,6 +9,7 @@ mod kinds;
 mod manual;
 mod output;
 mod plot;
+mod sets;
 mod shown;
 mod stop;
 mod tear;
@@ -34,13 +35,14 @@ use units::{Asked, Kind};
     bin_name = "tuz",
     after_help = "\
 Examples:
-  tuz list night.264 --table camera.txt          each unit with its place, length, type, frame and QP
-  tuz headers night.264 --table camera.txt --format csv > night.csv
-  tuz qp night.264 --table camera.txt --plot night.svg
-  tuz tear night.264 --sample -o torn.264 --at 70000 --length 512
-  ffmpeg -i in.mp4 -c copy -bsf:v h264_mp4toannexb -f h264 - | tuz list - --table camera.txt
+  tuz list night.264                             each unit with its place, length, type, frame and QP
+  tuz headers night.264 --format csv > night.csv
+  tuz qp night.264 --plot night.svg
+  tuz tear night.264 -o torn.264 --at 70000 --length 512
+  ffmpeg -i in.mp4 -c copy -bsf:v h264_mp4toannexb -f h264 - | tuz list -
+  tuz table night.264 > camera.txt; tuz list rest-of-the-night.264 --table camera.txt
 
-A table file holds words of the parameter sets, such as
+Parameter sets are read from the recording. One that begins behind them is given a table file, which holds words such as
   sps:0:1:0:0:4:2:0:0:1:99 pps:0:0:0:0:0:0:0:0:0:0:0:0:0
 (`tuz help cases` names the fields).
 
@@ -71,7 +73,7 @@ enum What {
         #[command(flatten)]
         ending: Ending,
     },
-    /// A line for each unit with what its first bytes say: type, nal_ref_idc and extension; no table is needed
+    /// A line for each unit with what its first bytes say: type, nal_ref_idc and extension; bodies are not read
     Kinds {
         #[command(flatten)]
         clip: Bare,
@@ -92,6 +94,13 @@ enum What {
         /// QP over the recording as SVG; refused units stand out in red; `-` is standard output
         #[arg(long, value_name = "FILE.svg")]
         plot: Option<PathBuf>,
+        #[command(flatten)]
+        ending: Ending,
+    },
+    /// The parameter sets of a recording, as a table file: a line for each that changes the table, with its place
+    Table {
+        #[command(flatten)]
+        clip: Bare,
         #[command(flatten)]
         ending: Ending,
     },
@@ -118,7 +127,7 @@ Example:
     },
     /// What a refusal's number means; without a number, all of them
     Explain {
-        /// The number, 1 to 27 or 34
+        /// The number, 1 to 28 or 34
         #[arg(value_name = "N")]
         number: Option<u32>,
     },
@@ -183,6 +192,7 @@ fn run(args: &Args, out: &mut Stdout) -> Result<u8> {
             let asked = asked(Kind::Qp, clip, form, ending);
             units::run(&Asked { csv, plot, ..asked }, out)
         }
+        What::Table { clip, ending } => sets::run(&Clip::from(clip), ending, out),
         What::Tear(tear) => tear::run(tear, out).map(|()| 0),
         What::Cases { file, rewrite } => cases_of(file, *rewrite, out).map(|()| 0),
         What::Explain { number } => {

@@ -7,7 +7,7 @@ use anyhow::{ensure, Result};
 use clap::{Args, ValueEnum};
 use std::fmt::Write;
 use std::path::PathBuf;
-use tuzmarghil::{reports, Report, Table, LIMIT};
+use tuzmarghil::{reports, Report, Table, Unit, LIMIT};
 
 #[derive(Args)]
 pub struct Tear {
@@ -151,11 +151,13 @@ impl Damage {
         [&clip[..self.at], &self.new, &clip[self.at + self.gone..]].concat()
     }
 
-    /// Says what both clips must have in common: the units whose end mark lies before the damage, and those whose start code lies behind it. Then looks whether they do.
+    /// Says what both clips must have in common: the units whose end mark lies before the damage, and those whose start code lies behind it, where both walks come there
+    /// with equal tables. Then looks whether they do.
     fn expect(&self, table: &Table, clip: &[u8], torn: &[u8], to: &mut String) -> Result<()> {
         let (at, gone, new) = (self.at, self.gone, self.new.len());
-        let was: Vec<Report> = reports(table, clip)?.collect();
-        let is: Vec<Report> = reports(table, torn)?.collect();
+        let (was, table_was) = walked(table, clip, at + gone)?;
+        let (is, table_is) = walked(table, torn, at + new)?;
+        let equal = table_was == table_is;
         let before = |r: &&Report| r.place + r.length + 3 <= at;
         let behind = |r: &&Report, end: usize| end + 3 <= r.place;
         let first = was.iter().filter(before).count();
@@ -163,10 +165,14 @@ impl Damage {
         writeln!(to, "torn place={at} bytes_gone={gone} bytes_new={new}")?;
         writeln!(to, "expect first={first} as before")?;
         let moved = new as i64 - gone as i64;
-        writeln!(
-            to,
-            "expect last={last} as before, places moved by {moved:+}"
-        )?;
+        if equal {
+            writeln!(
+                to,
+                "expect last={last} as before, places moved by {moved:+}"
+            )?;
+        } else {
+            writeln!(to, "expect nothing of last={last}: a parameter set is lost or another, places moved by {moved:+}")?;
+        }
         let (lost, found) = (was.len() - first - last, is.len());
         let same_first = was.iter().filter(before).eq(is.iter().filter(before));
         let ends = |r: &&Report, s: &[u8]| (s.len() - r.place, r.length, r.unit.clone());
@@ -174,7 +180,7 @@ impl Damage {
             .map(|r| ends(&r, clip))
             .eq((is.iter().filter(|r| behind(r, at + new))).map(|r| ends(&r, torn)));
         ensure!(
-            same_first && same_last && first + last <= found,
+            same_first && (same_last || !equal) && first + last <= found,
             "the torn clip does not read as promised: this is a fault of the library"
         );
         writeln!(
@@ -184,4 +190,18 @@ impl Damage {
         )?;
         Ok(())
     }
+}
+
+/// The reports of a recording, and the table with which the walk comes to the first start code from `border` on.
+fn walked(table: &Table, recording: &[u8], border: usize) -> Result<(Vec<Report>, Table)> {
+    let (mut at_border, mut table) = (table.clone(), table.clone());
+    let (mut walk, mut found) = (reports(&mut table, recording)?, vec![]);
+    while let Some(report) = walk.next() {
+        let set = matches!(report.unit, Ok(Unit::Sequence(_) | Unit::Picture(_)));
+        if set && report.place < border + 3 {
+            at_border.clone_from(walk.table());
+        }
+        found.push(report);
+    }
+    Ok((found, at_border))
 }

@@ -8,6 +8,7 @@ use tuzmarghil::StreamReport;
 pub struct Totals {
     pub units: u64,
     pub slices: [u64; 5],
+    pub sets: u64,
     pub prefixes: u64,
     pub others: u64,
     pub refused: u64,
@@ -25,6 +26,7 @@ impl Totals {
             0 => self.others += 1,
             1 => self.slices[words.header().slice_type as usize % 5] += 1,
             2 => self.prefixes += 1,
+            4 | 5 => self.sets += 1,
             _ => {
                 self.refused += 1;
                 self.missing += u64::from(matches!(read.number, 9 | 10));
@@ -32,9 +34,9 @@ impl Totals {
         }
     }
 
-    /// No slice was read, and some were refused since a set is not in the table.
-    pub fn none_has_its_sets(&self) -> bool {
-        self.missing > 0 && self.slices == [0; 5]
+    /// No slice was read so far, and one was refused since a set is not in the table.
+    pub fn first_is_missing(&self) -> bool {
+        self.missing == 1 && self.slices == [0; 5]
     }
 
     /// In words, over a recording of so many bytes.
@@ -49,8 +51,9 @@ impl Totals {
             let _ = write!(told, "{before}{} {}", self.slices[*i], FAMILIES[*i]);
         }
         let close = if met.is_empty() { "" } else { ")" };
-        let (prefixes, others, refused) = (self.prefixes, self.others, self.refused);
-        told + &format!("{close}, {prefixes} prefix units, {others} others, {refused} refused")
+        let (sets, prefixes) = (self.sets, self.prefixes);
+        let (others, refused) = (self.others, self.refused);
+        told + &format!("{close}, {sets} parameter sets, {prefixes} prefix units, {others} others, {refused} refused")
     }
 }
 

@@ -5,12 +5,13 @@ use crate::form::{self, Format, Text};
 use crate::input::{Clip, Each, Recording};
 use crate::output::{Output, Stdout};
 use crate::plot::Course;
+use crate::sets::Sets;
 use crate::totals::{Quantisers, Totals};
 use crate::Ending;
 use anyhow::Result;
 use std::path::Path;
 use tuzmarghil::raw::{self, ReadOut};
-use tuzmarghil::{Stream, StreamReport, Table};
+use tuzmarghil::{Stream, StreamReport};
 
 /// Which command it is.
 #[derive(Clone, Copy, PartialEq, Eq)]
@@ -40,7 +41,7 @@ pub fn run(asked: &Asked<'_>, out: &mut Stdout) -> Result<u8> {
     let to_stdout = |output: &Option<Output>| output.as_ref().map_or(false, Output::is_stdout);
     let mut units = Units {
         asked,
-        table: &table,
+        sets: Sets::new(clip.name(), table.clone()),
         // standard output holds one thing
         lines: !to_stdout(&csv) && !to_stdout(&plot),
         terminal: console::user_attended(),
@@ -53,7 +54,7 @@ pub fn run(asked: &Asked<'_>, out: &mut Stdout) -> Result<u8> {
         plot,
         out,
     };
-    let bytes = recording.units(ending.quiet, &mut units)?;
+    let bytes = recording.units(table, ending.quiet, &mut units)?;
     if !units.wanted() {
         return Ok(0);
     }
@@ -62,7 +63,7 @@ pub fn run(asked: &Asked<'_>, out: &mut Stdout) -> Result<u8> {
 
 struct Units<'a> {
     asked: &'a Asked<'a>,
-    table: &'a Table,
+    sets: Sets,
     /// Whether units are told on standard output.
     lines: bool,
     terminal: bool,
@@ -78,7 +79,7 @@ struct Units<'a> {
 
 impl Each for Units<'_> {
     fn unit(&mut self, stream: &mut Stream<Recording>) -> Result<bool> {
-        match stream.next_at_hand(self.table) {
+        match stream.next_unit_at_hand() {
             None => Ok(false),
             Some(report) => self.take(&report).map(|()| true),
         }
@@ -101,8 +102,9 @@ impl Units<'_> {
         self.begin()?;
         let (read, words) = r.raw();
         self.totals.take(r);
-        self.tell_missing(read);
-        let slice = (read.answer == 1).then(|| Slice::of(self.table, words));
+        self.sets.take(r);
+        self.tell_missing(r.place, read);
+        let slice = (read.answer == 1).then(|| Slice::of(r.table(), words));
         if self.asked.kind == Kind::Qp {
             if read.answer != 1 && read.answer != 3 {
                 return Ok(());
@@ -172,7 +174,7 @@ impl Units<'_> {
         let (read, words) = r.raw();
         let (place, length) = (r.place as usize, r.length as usize);
         let mut line = [0; 128];
-        let table = self.table.as_raw();
+        let table = r.table().as_raw();
         let text = raw::unit_line(&mut line, table, place, length, r.bytes(), read, words);
         self.line.extend_from_slice(text);
         if self.terminal && read.answer == 3 {
@@ -203,14 +205,12 @@ impl Units<'_> {
         Ok(())
     }
 
-    /// Says once that no table was given.
-    fn tell_missing(&self, read: &ReadOut) {
-        let first = self.totals.missing == 1 && read.answer == 3 && matches!(read.number, 9 | 10);
-        if first && !self.asked.clip.has_table() {
-            eprintln!(
-                "tuz: {}: no table is given, so its slices are refused with 9: `--table FILE` names the parameter sets (`tuz help cases`)",
-                self.asked.clip.name()
-            );
+    /// Says once that a slice lacks its sets, where none was read before it.
+    fn tell_missing(&self, place: u64, read: &ReadOut) {
+        let first = self.totals.first_is_missing() && read.answer == 3;
+        if first && matches!(read.number, 9 | 10) {
+            let (name, why) = (self.asked.clip.name(), read.refusal().reason());
+            eprintln!("tuz: {name}: place {place}: {why}: it has not come so far; `--table FILE` gives sets to start with (`tuz help cases`)");
         }
     }
 
@@ -240,9 +240,7 @@ impl Units<'_> {
             file.finish()?;
         }
         self.out.finish()?;
-        if clip.has_table() && self.totals.none_has_its_sets() {
-            eprintln!("tuz: {name}: no slice has its parameter sets in the table");
-        }
+        self.sets.end();
         if !ending.quiet {
             if !(self.lines && text) {
                 eprint!("{sums}");

@@ -32,7 +32,7 @@ impl Filled {
         for id in 0..256 {
             let of = self.table.picture(id).map(|set| set.seq_parameter_set_id);
             if let Some(of) = of.filter(|of| self.table.sequence(*of).is_none()) {
-                told.push(format!("pps:{id} names the sequence set {of}, which is not in the table: its slices are refused with 10"));
+                told.push(format!("pps:{id} names the sequence set {of}, which is not in the table: unless the recording brings it, its slices are refused with 10"));
             }
         }
         told

@@ -19,7 +19,7 @@ fn the_listing_of_document_01() {
     );
     assert_eq!(
         err(&done),
-        "standard input: 13 bytes, 7 of them in no unit; 2 units: 1 slices (1 I), 0 prefix units, 1 others, 0 refused\n"
+        "standard input: 13 bytes, 7 of them in no unit; 2 units: 1 slices (1 I), 0 parameter sets, 0 prefix units, 1 others, 0 refused\n"
     );
 
     let (clip, table) = (file("a.264", &CLIP), file("a.table", SETS.as_bytes()));
@@ -91,8 +91,8 @@ fn text_of(json: &serde_json::Value) -> String {
 #[test]
 fn three_formats_say_the_same() {
     let clips = Path::new(env!("CARGO_MANIFEST_DIR")).join("../../tests/clips");
-    let (clip, table) = (clips.join("comet.264"), clips.join("comet.table"));
-    let words = ["headers", word(&clip), "--table", word(&table), "--format"];
+    let clip = clips.join("comet.264");
+    let words = ["headers", word(&clip), "--format"];
     let of = |format| out(&tuz(&[&words[..], &[format]].concat(), &[]));
     let (text, json, csv) = (of("text"), of("json"), of("csv"));
     let mut rows = csv::Reader::from_reader(csv.as_bytes());
@@ -309,27 +309,135 @@ fn zeros_before_a_clip() {
     );
 }
 
-/// Without a table slices are refused; what is missing is said once.
+/// Where neither the recording nor a table brings its sets, slices are refused; what is missing is said once.
 #[test]
-fn a_missing_table_is_said_once() {
+fn a_missing_set_is_said_once() {
     let clip = CLIP.repeat(3);
+    let table = file(
+        "another.table",
+        b"sps:0:1:0:0:4:2:0:0:1:99 pps:7:0:0:0:0:0:0:0:0:0:0:0:0",
+    );
     for command in ["list", "headers", "qp"] {
-        let done = tuz(&[command, "-", "-q"], &clip);
-        let told = "tuz: standard input: no table is given, so its slices are refused with 9: `--table FILE` names the parameter sets (`tuz help cases`)\n";
-        assert_eq!((err(&done).as_str(), done.status.code()), (told, Some(0)));
-        let table = file(
-            "another.table",
-            b"sps:0:1:0:0:4:2:0:0:1:99 pps:7:0:0:0:0:0:0:0:0:0:0:0:0",
-        );
-        let done = tuz(&[command, "-", "-q", "--table", word(&table)], &clip);
-        assert_eq!(
-            err(&done),
-            "tuz: standard input: no slice has its parameter sets in the table\n"
-        );
-        // a slice that was read shows that the table is the right one
+        for given in [&[][..], &["--table", word(&table)]] {
+            let done = tuz(&[&[command, "-", "-q"], given].concat(), &clip);
+            let told = "tuz: standard input: place 4: picture parameter set 0 is not in the table: it has not come so far; `--table FILE` gives sets to start with (`tuz help cases`)\n";
+            assert_eq!((err(&done).as_str(), done.status.code()), (told, Some(0)));
+        }
+        // a slice that was read shows that the sets are the right ones
         let torn = [&clip[..], &[0, 0, 1, 0x65, 0x88, 0x90, 0x80]].concat();
         assert_eq!(err(&tuz(&[command, "-", "-q", "--sample"], &torn)), "");
     }
+}
+
+/// Units behind start codes.
+fn recording(units: &[&[u8]]) -> Vec<u8> {
+    units
+        .iter()
+        .flat_map(|u| [&[0, 0, 1], *u].concat())
+        .collect()
+}
+
+/// The sets of a recording serve the slices behind them. One that is refused leaves the table as it was, one that is different takes the place of what was there, or was
+/// given; both are told with their place, those that come again are not.
+#[test]
+fn sets_of_the_recording() {
+    let sps: &[u8] = &[0x67, 0x42, 0xC0, 0x0A, 0xDA, 0x0B, 0x13, 0x90];
+    let (pps, other): (&[u8], &[u8]) = (&[0x68, 0xCE, 0x04, 0x62], &[0x68, 0xCE, 0x38, 0x80]);
+    let slice: &[u8] = &[0x65, 0x88, 0x84, 0xA0];
+    let clip = recording(&[
+        sps,
+        pps,
+        slice,
+        sps,
+        pps,
+        &[0x68, 0x82, 0x10],
+        slice,
+        other,
+        &sps[..4],
+        slice,
+    ]);
+    let listing = "\
+unit place=3 length=8 sps id=0
+unit place=14 length=4 pps id=0
+unit place=21 length=4 slice type=7 frame=0 qp=30
+unit place=28 length=8 sps id=0
+unit place=39 length=4 pps id=0
+unit place=46 length=3 refused 28 value=0 bit=1
+unit place=52 length=4 slice type=7 frame=0 qp=30
+unit place=59 length=4 pps id=0
+unit place=66 length=4 refused 5 value=0 bit=24
+unit place=73 length=4 slice type=7 frame=0 qp=26
+end units=10 refused=2
+";
+    let refused = "tuz: standard input: place 46: a picture parameter set is refused 28 at bit 1: a parameter set's field is out of its range; the table stays as it was\n";
+    let replaced =
+        "tuz: standard input: place 59: picture parameter set 0 replaces a different one\n";
+    let cut = "tuz: standard input: place 66: a sequence parameter set is refused 5 at bit 24: the bits ran out inside a field; the table stays as it was\n";
+    let told = [refused, replaced, cut].concat();
+    let done = tuz(&["list", "-", "-q"], &clip);
+    assert_eq!((out(&done).as_str(), err(&done)), (listing, told.clone()));
+    for command in ["headers", "qp"] {
+        assert_eq!(err(&tuz(&[command, "-", "-q"], &clip)), told);
+    }
+    let points = out(&tuz(&["qp", "-", "-q", "--format", "csv"], &clip));
+    let points: Vec<_> = points.lines().map(|l| &l[l.len() - 2..]).collect();
+    assert_eq!(points, ["qp", "30", ",,", "30", ",,", "26"]);
+
+    // what is given counts as there
+    let done = tuz(&["list", "-", "-q", "--sample"], &clip);
+    let first = "tuz: standard input: place 14: picture parameter set 0 replaces a different one\n";
+    assert_eq!(err(&done), [first, &told].concat());
+
+    // the sets as a table file, which gives the same to a recording that lacks them
+    let done = tuz(&["table", "-"], &clip);
+    let table = "\
+sps:0:1:0:0:4:2:0:0:1:99 # place=3
+pps:0:0:0:0:0:0:0:0:4:0:0:0:0 # place=14
+pps:0:0:0:0:0:0:0:0:0:0:0:0:0 # place=59
+";
+    let sum = "standard input: 5 parameter sets, 2 of them as the table had them; 2 refused\n";
+    assert_eq!(
+        (out(&done).as_str(), err(&done)),
+        (table, told.clone() + sum)
+    );
+    assert_eq!(
+        tuz(&["table", "-", "-q", "--strict"], &clip).status.code(),
+        Some(1)
+    );
+    let first: String = table.lines().take(2).map(|l| format!("{l}\n")).collect();
+    let first = file("first.table", first.as_bytes());
+    let done = tuz(
+        &["list", "-", "-q", "--table", word(&first)],
+        &recording(&[slice]),
+    );
+    let line = "unit place=3 length=4 slice type=7 frame=0 qp=30\nend units=1 refused=0\n";
+    assert_eq!((out(&done).as_str(), err(&done).as_str()), (line, ""));
+
+    // of many, some are told and the rest are counted
+    let many = recording(&[&[sps][..], &[pps, other].repeat(20)].concat());
+    let told = err(&tuz(&["list", "-", "-q"], &many));
+    assert_eq!(told.lines().count(), 11);
+    assert!(told.ends_with(
+        "tuz: standard input: 29 more parameter sets were refused, or replaced different ones\n"
+    ));
+}
+
+/// `tuz cases` answers a set by its word, `tuz headers` by its fields.
+#[test]
+fn sets_by_word_and_by_field() {
+    let done = tuz(&["cases", "-"], b"6742c00ada0b1390\n68ce0462\n688210\n");
+    let told = "sps sps:0:1:0:0:4:2:0:0:1:99\npps pps:0:0:0:0:0:0:0:0:4:0:0:0:0\nrefused 28 value=0 bit=1\n";
+    assert_eq!(out(&done), told);
+    let clip = recording(&[&[0x68, 0xCE, 0x04, 0x62]]);
+    let json = out(&tuz(&["headers", "-", "-q", "--format", "json"], &clip));
+    let set: serde_json::Value = serde_json::from_str(&json).unwrap();
+    assert_eq!(set["answer"], "pps");
+    assert_eq!(set["pic_init_qp_minus26"], 4);
+    assert_eq!(set["weighted_pred_flag"], false);
+    assert_eq!(set.as_object().unwrap().len(), 16);
+    let json = out(&tuz(&["list", "-", "-q", "--format", "json"], &clip));
+    let told = r#"{"place":3,"length":4,"answer":"pps","pic_parameter_set_id":0}"#;
+    assert_eq!(json.trim_end(), told);
 }
 
 /// Root may read every file, so the command runs as another user there.
@@ -397,7 +505,7 @@ fn a_doubtful_table_is_told() {
     for (table, told) in [
         (marked.as_str(), &["begins with a byte order mark, which is passed over"][..]),
         (&twice, &["sps:0 stands 3 times; the last one holds", "pps:0 stands 2 times; the last one holds"]),
-        (&lost, &["pps:9 names the sequence set 4, which is not in the table: its slices are refused with 10"]),
+        (&lost, &["pps:9 names the sequence set 4, which is not in the table: unless the recording brings it, its slices are refused with 10"]),
     ] {
         let path = file("doubtful.table", table.as_bytes());
         let done = tuz(&["list", "-", "-q", "--table", word(&path)], &CLIP);
@@ -617,8 +725,7 @@ fn a_closed_pipe_ends_no_work() {
 fn the_demo() {
     let demo = Path::new(env!("CARGO_MANIFEST_DIR")).join("../../demo");
     let (whole, torn) = (demo.join("night.264"), demo.join("torn.264"));
-    let table = demo.join("night.table");
-    let listed = |clip: &Path| out(&tuz(&["list", word(clip), "--table", word(&table)], &[]));
+    let listed = |clip: &Path| out(&tuz(&["list", word(clip)], &[]));
     let (whole, torn) = (listed(&whole), listed(&torn));
     let (whole, torn): (Vec<_>, Vec<_>) = (whole.lines().collect(), torn.lines().collect());
     let other: Vec<_> = (whole.iter().zip(&torn)).filter(|(a, b)| a != b).collect();

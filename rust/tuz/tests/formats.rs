@@ -13,8 +13,14 @@ fn mixed() -> Vec<u8> {
     [&CLIP[..], prefix, &[0, 0, 1, 0xE5], &[0, 0, 1, 0x65, 0x88]].concat()
 }
 
+/// The same with a sequence set and a picture set behind it.
+fn mixed_with_sets() -> Vec<u8> {
+    let sps: &[u8] = &[0, 0, 1, 0x67, 0x42, 0xC0, 0x0A, 0xDA, 0x0B, 0x13, 0x90];
+    [&mixed()[..], sps, &[0, 0, 1, 0x68, 0xCE, 0x04, 0x62]].concat()
+}
+
 fn json(words: &[&str]) -> Vec<serde_json::Map<String, serde_json::Value>> {
-    let done = tuz(&[words, &["--format", "json"]].concat(), &mixed());
+    let done = tuz(&[words, &["--format", "json"]].concat(), &mixed_with_sets());
     let all = out(&done);
     all.lines()
         .map(|l| serde_json::from_str(l).unwrap())
@@ -25,8 +31,8 @@ fn json(words: &[&str]) -> Vec<serde_json::Map<String, serde_json::Value>> {
 #[test]
 fn one_schema() {
     let all = json(&["headers", "-", "--sample", "-q"]);
-    assert_eq!(all.len(), 5);
-    for (command, units) in [("list", 5), ("qp", 3)] {
+    assert_eq!(all.len(), 7);
+    for (command, units) in [("list", 7), ("qp", 3)] {
         let words = [command, "-", "--sample", "-q"];
         let some = json(&words);
         assert_eq!(some.len(), units);
@@ -34,7 +40,8 @@ fn one_schema() {
             let whole = all.iter().find(|o| o["place"] == object["place"]).unwrap();
             assert!(object.iter().all(|(k, v)| &whole[k] == v), "{object:?}");
         }
-        let csv = out(&tuz(&[&words[..], &["--format", "csv"]].concat(), &mixed()));
+        let csv = [&words[..], &["--format", "csv"]].concat();
+        let csv = out(&tuz(&csv, &mixed_with_sets()));
         let mut rows = csv::Reader::from_reader(csv.as_bytes());
         let columns = rows.headers().unwrap().clone();
         for (row, object) in rows.records().map(Result::unwrap).zip(&some) {
@@ -97,15 +104,16 @@ fn a_refusal_is_explained() {
         ("14", "where the 67th code begins"),
         ("22", "where the header ends"),
         ("24", "none"),
+        ("28", "where the field begins"),
     ] {
         let told = out(&tuz(&["explain", number], &[]));
         assert!(told.contains(&format!("\nbit: {place}\n")), "{told}");
     }
-    assert_eq!(out(&tuz(&["explain"], &[])).lines().count(), 28);
-    let done = tuz(&["explain", "28"], &[]);
+    assert_eq!(out(&tuz(&["explain"], &[])).lines().count(), 29);
+    let done = tuz(&["explain", "29"], &[]);
     assert_eq!(
         (err(&done).as_str(), done.status.code()),
-        ("tuz: 28 is no refusal: they are 1 to 27 and 34\n", Some(2))
+        ("tuz: 29 is no refusal: they are 1 to 28 and 34\n", Some(2))
     );
 }
 

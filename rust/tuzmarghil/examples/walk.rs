@@ -1,6 +1,6 @@
 //! Counts the units of a recording: the library's walk and nothing else, so that what a program adds to it can be timed against this.
 //!
-//!     walk CLIP [sps:.. pps:.. ..]     the words of a table file
+//!     walk CLIP [sps:.. pps:.. ..]     the sets that the walk starts with, as words of a table file
 
 use std::fs::File;
 use std::{env, error, process};
@@ -20,9 +20,9 @@ fn run(words: &[String]) -> Result<(), Box<dyn error::Error>> {
     for set in sets {
         table.put_word(set)?;
     }
-    let mut stream = Stream::new(File::open(clip)?);
+    let mut stream = Stream::with_table(File::open(clip)?, table);
     let (mut units, mut slices, mut refused) = (0, 0, 0);
-    while let Some(report) = stream.next(&table)? {
+    while let Some(report) = stream.next_unit()? {
         units += 1;
         let answer = report.raw().0.answer;
         slices += u64::from(answer == 1);

@@ -1,24 +1,24 @@
-//! H.264 slice headers, prefix units and NAL headers, read by code that is proved.
+//! H.264 slice headers, prefix units, parameter sets and NAL headers, read by code that is proved.
 //!
 //! The reading is done by a static library that is written in Rattle and proved equal to a definition of the standard's syntax (`docs/PROMISES.md` of the
 //! repository says what is proved, theorem by theorem). This crate gives its answers Rust's types, under the names that `h264-reader` has for them. Every unit is
 //! read by itself: damage stays where it is.
 //!
 //! ```
-//! use tuzmarghil::{read_unit, Picture, Sequence, SliceFamily, Table, Unit};
+//! use tuzmarghil::{read_unit, reports, SliceFamily, Table, Unit};
 //!
-//! // what the slices need to know of their parameter sets
-//! let (mut sequence, mut picture) = (Sequence::default(), Picture::default());
-//! sequence.chroma_format_idc = 1;
-//! sequence.log2_max_frame_num = 4;
-//! sequence.pic_order_cnt_type = 2;
-//! sequence.frame_mbs_only_flag = true;
-//! sequence.pic_size_in_map_units = 99;
-//! picture.pic_init_qp_minus26 = 4;
+//! // a recording: a sequence set, a picture set, and a slice that is read by them
+//! let recording = [
+//!     0, 0, 0, 1, 0x67, 0x42, 0xC0, 0x0A, 0xDA, 0x0B, 0x13, 0x90, 0, 0, 0, 1, 0x68, 0xCE, 0x04, 0x62, 0, 0, 1, 0x65, 0x88, 0x84, 0xA0,
+//! ];
 //! let mut table = Table::new();
-//! table.put_sequence(0, sequence)?;
-//! table.put_picture(0, picture)?;
+//! let found: Vec<_> = reports(&mut table, &recording)?.map(|r| r.unit).collect();
+//! assert!(matches!(found[0], Ok(Unit::Sequence(_))));
+//! assert!(matches!(found[1], Ok(Unit::Picture(_))));
+//! assert!(matches!(found[2], Ok(Unit::Slice(_))));
+//! assert_eq!(table.sequence(0).unwrap().pic_size_in_map_units, 99);
 //!
+//! // a unit by itself, by the table that is there now
 //! let mut scratch = Vec::new();
 //! let slice = match read_unit(&table, &[0x65, 0x88, 0x84, 0xA0], &mut scratch)? {
 //!     Unit::Slice(slice) => slice,
@@ -26,7 +26,7 @@
 //! };
 //! assert_eq!(slice.header.slice_type.family, SliceFamily::I);
 //! assert_eq!(slice.header.frame_num, 0);
-//! assert_eq!(slice.qp(&table), Some(30));
+//! assert_eq!(slice.qp, 30);
 //!
 //! // a torn unit is refused, with the rules' number, the bit of the body where the refused field begins, and a reason to read
 //! let torn = read_unit(&table, &[0x65, 0x88], &mut scratch).unwrap_err();
@@ -68,7 +68,7 @@ pub use slice::{
     RefPicListModifications, SliceExclusive, SliceFamily, SliceHeader, SliceType,
 };
 pub use stream::{Stream, StreamHead, StreamReport};
-pub use table::{Picture, Sequence, Table};
+pub use table::{PicParameterSet, Picture, SeqParameterSet, Sequence, Table};
 pub use text::{SetId, WordError};
 pub use unit::{read_unit, Reading, Slice, Unit, UnitHead, UnitReader};
 pub use walk::{reports, Report, Reports};

@@ -3,7 +3,7 @@
 //! The structs are taken from the Rattle sources by build.rs: nothing is declared twice. What is absent is zero, with its mark `there` clear.
 #![allow(missing_docs)]
 
-use crate::Refusal;
+use crate::{PicParameterSet, Refusal, SeqParameterSet};
 use std::sync::atomic::{AtomicBool, Ordering::Relaxed};
 
 pub use crate::words::{List, ListWords, NumberWords, SignedWords, WeightWords, Weights, Words};
@@ -62,8 +62,8 @@ extern "C" {
     fn tuz_next_unit(out: *mut StepOut, recording: *const u8, recording_len: usize, from: usize);
     fn tuz_walk(
         out: *mut WalkOut,
-        sequences: *const [u32; 224],
-        pictures: *const [u32; 2304],
+        sequences: *mut [u32; 224],
+        pictures: *mut [u32; 2304],
         recording: *const u8,
         recording_len: usize,
         from: usize,
@@ -134,6 +134,22 @@ impl ReadOut {
             has_bit: refusal.bit.is_some(),
             bit: refusal.bit.unwrap_or(0),
             ..ReadOut::default()
+        }
+    }
+
+    /// The sequence set, where that is the answer.
+    pub fn sequence_set(&self) -> SeqParameterSet {
+        SeqParameterSet {
+            seq_parameter_set_id: self.number,
+            sequence: crate::Sequence::from_raw(self.sequence),
+        }
+    }
+
+    /// The picture set, where that is the answer.
+    pub fn picture_set(&self) -> PicParameterSet {
+        PicParameterSet {
+            pic_parameter_set_id: self.number,
+            picture: crate::Picture::from_raw(self.picture),
         }
     }
 
@@ -271,6 +287,15 @@ pub fn put_picture(table: &mut Table, id: u32, set: Picture) -> ChangedOut {
     unsafe { tuz_put_picture(table, id, set) }
 }
 
+/// Puts the set that a unit was read as, if it is one: what a step of the walk does by itself.
+pub fn put_read(table: &mut Table, read: &ReadOut) {
+    match read.answer {
+        4 => put_sequence(table, read.number, read.sequence),
+        5 => put_picture(table, read.number, read.picture),
+        _ => return,
+    };
+}
+
 /// A call that is lent words, which come last in it.
 macro_rules! lending {
     ($words:expr, $call:ident($($given:expr),*)) => {{
@@ -339,8 +364,9 @@ pub fn next_unit(recording: &[u8], from: usize) -> StepOut {
     out
 }
 
+/// One step of the walk: a set that is read is put into the table.
 pub fn walk(
-    table: &Table,
+    table: &mut Table,
     recording: &[u8],
     from: usize,
     scratch: &mut [u8],
@@ -348,7 +374,7 @@ pub fn walk(
     out: &mut WalkOut,
 ) {
     asked();
-    let (q, p) = (&table.sequences, &table.pictures);
+    let (q, p) = (&mut table.sequences, &mut table.pictures);
     let (r, rn) = (recording.as_ptr(), recording.len());
     let (s, sn) = (scratch.as_mut_ptr(), scratch.len());
     // SAFETY: each pointer and length is that of a live slice, the arrays live through the call and lie apart, and it requires nothing.

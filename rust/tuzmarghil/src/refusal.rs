@@ -7,7 +7,7 @@ use std::fmt;
 #[cfg_attr(feature = "serde", derive(serde::Serialize))]
 #[non_exhaustive]
 pub struct Refusal {
-    /// The rules' number, 1 to 27 or 34.
+    /// The rules' number, 1 to 28 or 34.
     pub number: u32,
     /// The value that goes with the number: the field's content, a set's id, the bytes needed, or 0.
     pub value: i64,
@@ -100,6 +100,7 @@ impl fmt::Display for Reason<'_> {
             ),
             26 => write!(f, "the buffer is too short: {value} bytes are needed"),
             27 => write!(f, "over 268435456 bytes"),
+            28 => write!(f, "a parameter set's field is out of its range"),
             34 => write!(f, "the head is not the unit's own"),
             _ => write!(f, "value {value}"),
         }

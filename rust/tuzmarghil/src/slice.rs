@@ -2,6 +2,7 @@
 
 use crate::raw;
 use crate::raw::{HeaderShort, List, MarkedFlag, MarkedNumber, MarkedSigned, Weights, Words};
+use crate::Table;
 
 #[derive(Debug, Clone, Copy, PartialEq, Eq)]
 #[cfg_attr(feature = "serde", derive(serde::Serialize))]
@@ -272,6 +273,23 @@ impl SliceHeader {
             slice_beta_offset_div2: filter.slice_beta_offset_div2.get(),
             slice_group_change_cycle: filter.slice_group_change_cycle.get(),
         }
+    }
+}
+
+impl SliceHeader {
+    /// The final QP (SliceQPY) of a header that is made or edited, by a table: 26 + `pic_init_qp_minus26` + `slice_qp_delta`; nothing where the picture set is not in
+    /// it. That of a slice as it was read stands in [`crate::Slice`].
+    pub fn qp(&self, table: &Table) -> Option<i64> {
+        let id = self.pic_parameter_set_id;
+        table.picture(id)?;
+        Some(raw::final_qp(table.as_raw(), id, self.slice_qp_delta))
+    }
+
+    /// The final QS (QSY) likewise, of slices of types SP and SI.
+    pub fn qs(&self, table: &Table) -> Option<i64> {
+        let (id, delta) = (self.pic_parameter_set_id, self.slice_qs_delta?);
+        table.picture(id)?;
+        Some(raw::final_qs(table.as_raw(), id, delta))
     }
 }
 

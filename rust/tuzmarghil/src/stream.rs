@@ -28,6 +28,11 @@ impl<'a> StreamReport<'a> {
         self.reading.unit()
     }
 
+    /// The table in force: of a slice, the one that it was read by; of a set, with that set in it.
+    pub fn table(&self) -> &'a Table {
+        self.reading.table()
+    }
+
     #[doc(hidden)]
     pub fn raw(&self) -> (&'a ReadOut, &'a Words) {
         self.reading.raw()
@@ -61,15 +66,16 @@ impl<'a> StreamHead<'a> {
     }
 }
 
-/// A recording that is read piece by piece.
+/// A recording that is read piece by piece, and the table that goes with it: a parameter set that is read goes into it, and the slices behind it are read by that; one
+/// that is refused leaves it as it was.
 ///
 /// ```
-/// use tuzmarghil::{Stream, Table, Unit, UnitType};
+/// use tuzmarghil::{Stream, Unit, UnitType};
 ///
 /// let recording: &[u8] = &[0, 0, 0, 1, 0xE5, 0x88, 0, 0, 1, 0x09, 0xF0];
-/// let (table, mut found) = (Table::new(), vec![]);
+/// let mut found = vec![];
 /// let mut stream = Stream::new(recording);
-/// while let Some(report) = stream.next(&table)? {
+/// while let Some(report) = stream.next_unit()? {
 ///     found.push((report.place, report.length, report.unit()));
 /// }
 /// assert_eq!((found[0].0, found[0].1), (4, 2));
@@ -82,6 +88,7 @@ impl<'a> StreamHead<'a> {
 pub struct Stream<R> {
     source: R,
     ended: bool,
+    table: Table,
     /// The limit of a unit and a window: `LIMIT`, but for tests.
     limit: usize,
     buffer: Vec<u8>,
@@ -119,15 +126,31 @@ enum Found {
 const PIECE: usize = 8 << 20;
 
 impl<R: Read> Stream<R> {
-    /// The recording that `source` gives.
+    /// The recording that `source` gives, with an empty table.
     pub fn new(source: R) -> Stream<R> {
-        Stream::with(source, PIECE, LIMIT)
+        Stream::with_table(source, Table::new())
     }
 
-    fn with(source: R, piece: usize, limit: usize) -> Stream<R> {
+    /// The same, with sets to start with.
+    ///
+    /// ```
+    /// use tuzmarghil::{Stream, Table, Unit};
+    ///
+    /// let recording: &[u8] = &[0, 0, 1, 0x65, 0x88, 0x84, 0xA0];
+    /// let mut stream = Stream::with_table(recording, Table::sample());
+    /// let report = stream.next_unit()?.unwrap();
+    /// assert!(matches!(report.unit(), Ok(Unit::Slice(slice)) if slice.qp == 26));
+    /// # Ok::<(), std::io::Error>(())
+    /// ```
+    pub fn with_table(source: R, table: Table) -> Stream<R> {
+        Stream::with(source, table, PIECE, LIMIT)
+    }
+
+    fn with(source: R, table: Table, piece: usize, limit: usize) -> Stream<R> {
         Stream {
             source,
             ended: false,
+            table,
             limit,
             buffer: vec![0; piece.min(limit + 6)],
             filled: 0,
@@ -147,10 +170,15 @@ impl<R: Read> Stream<R> {
         self.base + self.at as u64
     }
 
-    /// The next unit, by the sets of a table; nothing at the end. A unit is there as soon as its end mark has come.
-    pub fn next(&mut self, table: &Table) -> io::Result<Option<StreamReport<'_>>> {
+    /// The table after the units that have been reported.
+    pub fn table(&self) -> &Table {
+        &self.table
+    }
+
+    /// The next unit; nothing at the end. A unit is there as soon as its end mark has come.
+    pub fn next_unit(&mut self) -> io::Result<Option<StreamReport<'_>>> {
         loop {
-            if let Some(found) = self.find(Some(table)) {
+            if let Some(found) = self.find(true) {
                 return Ok(Some(self.report(found)));
             }
             if !self.read_more()? {
@@ -159,10 +187,10 @@ impl<R: Read> Stream<R> {
         }
     }
 
-    /// The next unit with its head alone: bodies are not read, so no table is needed.
+    /// The next unit with its head alone: bodies are not read, so a parameter set does not go into the table.
     pub fn next_head(&mut self) -> io::Result<Option<StreamHead<'_>>> {
         loop {
-            if let Some(found) = self.find(None) {
+            if let Some(found) = self.find(false) {
                 return Ok(Some(self.head(found)));
             }
             if !self.read_more()? {
@@ -172,14 +200,14 @@ impl<R: Read> Stream<R> {
     }
 
     /// The next unit that has come whole; nothing where [`Stream::read_more`] must be asked first.
-    pub fn next_at_hand(&mut self, table: &Table) -> Option<StreamReport<'_>> {
-        let found = self.find(Some(table))?;
+    pub fn next_unit_at_hand(&mut self) -> Option<StreamReport<'_>> {
+        let found = self.find(true)?;
         Some(self.report(found))
     }
 
     /// The same, with the unit's head alone.
     pub fn next_head_at_hand(&mut self) -> Option<StreamHead<'_>> {
-        let found = self.find(None)?;
+        let found = self.find(false)?;
         Some(self.head(found))
     }
 
@@ -208,11 +236,11 @@ impl<R: Read> Stream<R> {
         }
     }
 
-    /// The next unit, which is read where there is a table.
-    fn find(&mut self, table: Option<&Table>) -> Option<Found> {
+    /// The next unit, and whether it is to be read.
+    fn find(&mut self, read: bool) -> Option<Found> {
         loop {
             if self.at < self.window {
-                if let Some((from, length, next)) = self.step(table) {
+                if let Some((from, length, next)) = self.step(read) {
                     self.at = next;
                     let to = from + length;
                     return Some(Found::Unit { from, to });
@@ -227,7 +255,7 @@ impl<R: Read> Stream<R> {
                 continue;
             }
             if self.buffer[..self.filled].starts_with(&[0, 0, 1]) {
-                return self.wide_unit(table);
+                return self.wide_unit(read);
             }
             // these bytes are in no unit, but that a start code may begin in the last two
             let whole = self.whole();
@@ -240,20 +268,17 @@ impl<R: Read> Stream<R> {
     }
 
     /// A step of the walk in the window: a unit's place and length, and the place to go on from.
-    fn step(&mut self, table: Option<&Table>) -> Option<(usize, usize, usize)> {
+    fn step(&mut self, read: bool) -> Option<(usize, usize, usize)> {
         let window = &self.buffer[..self.window];
-        match table {
-            None => {
-                let out = raw::next_unit(window, self.at);
-                (out.step == 1).then_some((out.place, out.length, out.next))
-            }
-            Some(table) => {
-                lengthen(&mut self.scratch, self.window);
-                let (scratch, words, out) = (&mut self.scratch, &mut self.words, &mut self.out);
-                raw::walk(table.as_raw(), window, self.at, scratch, words, out);
-                (out.step == 1).then_some((out.place, out.length, out.next))
-            }
+        if !read {
+            let out = raw::next_unit(window, self.at);
+            return (out.step == 1).then_some((out.place, out.length, out.next));
         }
+        lengthen(&mut self.scratch, self.window);
+        let (table, scratch) = (self.table.as_raw_mut(), &mut self.scratch);
+        let (words, out) = (&mut self.words, &mut self.out);
+        raw::walk(table, window, self.at, scratch, words, out);
+        (out.step == 1).then_some((out.place, out.length, out.next))
     }
 
     fn head(&self, found: Found) -> StreamHead<'_> {
@@ -294,7 +319,13 @@ impl<R: Read> Stream<R> {
         StreamReport {
             place,
             length,
-            reading: Reading::new(bytes, &self.out.read, &self.words, &self.scratch),
+            reading: Reading::new(
+                &self.table,
+                bytes,
+                &self.out.read,
+                &self.words,
+                &self.scratch,
+            ),
         }
     }
 
@@ -329,7 +360,7 @@ impl<R: Read> Stream<R> {
     }
 
     /// The unit at the front, where no window ends behind it: with its start code it is over the limit, or its end has not come.
-    fn wide_unit(&mut self, table: Option<&Table>) -> Option<Found> {
+    fn wide_unit(&mut self, read: bool) -> Option<Found> {
         let from = self.searched.max(3);
         let end = mark(&self.buffer[from..self.filled]).map(|end| end + from);
         if end.is_none() && !self.ended {
@@ -348,11 +379,12 @@ impl<R: Read> Stream<R> {
             let (place, length) = (self.base + 3, to as u64 - 3);
             return Some(Found::TooLong { place, length });
         }
-        if let Some(table) = table {
+        if read {
             lengthen(&mut self.scratch, to);
-            let (words, read) = (&mut self.words, &mut self.out.read);
-            let bytes = &self.buffer[3..to];
-            raw::read_unit(table.as_raw(), bytes, &mut self.scratch, words, read);
+            let (table, bytes) = (self.table.as_raw_mut(), &self.buffer[3..to]);
+            let (words, out) = (&mut self.words, &mut self.out.read);
+            raw::read_unit(table, bytes, &mut self.scratch, words, out);
+            raw::put_read(table, out);
         }
         Some(Found::Unit { from: 3, to })
     }
@@ -483,13 +515,12 @@ mod tests {
     fn too_long_leaves_nothing() {
         let mut s = vec![0, 0, 1, 0x6E, 0x80, 0, 7, 0xD1, 0xA0]; // a prefix unit with one base marking
         s.extend([0, 0, 1].iter().chain(&[0x65; 30]));
-        let mut stream = Stream::with(&s[..], 12, 20);
-        let table = Table::new();
-        let prefix = stream.next(&table).unwrap().unwrap();
+        let mut stream = Stream::with(&s[..], Table::new(), 12, 20);
+        let prefix = stream.next_unit().unwrap().unwrap();
         let (read, words) = prefix.raw();
         let told = (read.answer, read.prefix.base_markings);
         assert_eq!((told, words.base[0]), ((2, 1), 1));
-        let long = stream.next(&table).unwrap().unwrap();
+        let long = stream.next_unit().unwrap().unwrap();
         assert_eq!((long.length, long.bytes()), (30, &[][..]));
         assert_eq!(long.unit().unwrap_err().number, 27);
         let (read, words) = long.raw();
@@ -501,7 +532,6 @@ mod tests {
     #[test]
     fn windows_lose_nothing() {
         let mut random = random(88172645463325252);
-        let table = Table::new();
         for round in 0..60_000 {
             let length = random(60);
             let s: Vec<u8> = (0..length)
@@ -509,10 +539,10 @@ mod tests {
                 .collect();
             let limit = 1 + random(20);
             let source = drops(&s, 1 + random(9), [0, 0, 2, 3, 7][random(5)]);
-            let mut stream = Stream::with(source, 1 + random(12), limit);
+            let mut stream = Stream::with(source, Table::new(), 1 + random(12), limit);
             let mut found = vec![];
             loop {
-                let r = match stream.next(&table) {
+                let r = match stream.next_unit() {
                     Ok(None) => break,
                     Ok(Some(r)) => r,
                     Err(e) => {
@@ -533,17 +563,51 @@ mod tests {
         }
     }
 
+    /// Sets and slices in turn, some of them damaged: the table goes from window to window, so pieces and limits change no report, QP included.
+    #[test]
+    fn windows_carry_the_table() {
+        let sps: &[u8] = &[0x67, 0x42, 0xC0, 0x0A, 0xDA, 0x0B, 0x13, 0x90];
+        let (four, none): (&[u8], &[u8]) = (&[0x68, 0xCE, 0x04, 0x62], &[0x68, 0xCE, 0x38, 0x80]);
+        let units = [sps, four, none, &[0x65, 0x88, 0x84, 0xA0], &[0x09, 0xF0]];
+        let mut random = random(192876254517829);
+        let mut qps = [0; 2];
+        for _ in 0..5_000 {
+            let mut s = vec![];
+            for _ in 0..random(20) {
+                s.extend([0, 0, 1]);
+                let unit = units[random(5)];
+                s.extend(&unit[..unit.len() - random(3) * usize::from(random(4) == 0)]);
+            }
+            let mut table = Table::new();
+            let whole: Vec<_> = crate::reports(&mut table, &s).unwrap().collect();
+            // the longest unit has 8 bytes: with this limit it is wide
+            let (piece, limit) = (1 + random(12), 8 + random(40));
+            let mut stream = Stream::with(drops(&s, 1 + random(9), 0), Table::new(), piece, limit);
+            let mut found = vec![];
+            while let Some(r) = stream.next_unit().unwrap() {
+                if let Ok(Unit::Slice(slice)) = r.unit() {
+                    qps[usize::from(slice.qp == 30)] += 1;
+                }
+                found.push((r.place as usize, r.unit()));
+            }
+            let whole: Vec<_> = whole.into_iter().map(|r| (r.place, r.unit)).collect();
+            assert_eq!(found, whole, "{s:?}");
+            assert_eq!(*stream.table(), table);
+        }
+        assert!(qps[0] > 100 && qps[1] > 100, "{qps:?}");
+    }
+
     /// A unit is there as soon as its end mark has come, whatever its length.
     #[test]
     fn no_unit_waits() {
         let mut random = random(362436069362436069);
-        let table = Table::new();
         for _ in 0..5_000 {
             let s: Vec<u8> = (0..random(60))
                 .map(|_| [0, 0, 0, 1, 3, 0x65][random(6)])
                 .collect();
-            let mut stream = Stream::with(drops(&s, 1, 0), 1 + random(12), 1 + random(20));
-            while let Some(r) = stream.next(&table).unwrap() {
+            let (piece, limit) = (1 + random(12), 1 + random(20));
+            let mut stream = Stream::with(drops(&s, 1, 0), Table::new(), piece, limit);
+            while let Some(r) = stream.next_unit().unwrap() {
                 let needed = (r.place + r.length + 3).min(s.len() as u64);
                 let given = s.len() - stream.source.bytes.len();
                 // the byte behind a start code shows whether it was one
@@ -556,15 +620,14 @@ mod tests {
     #[test]
     fn heads_are_of_the_same_units() {
         let mut random = random(521288629521288629);
-        let table = Table::new();
         for _ in 0..5_000 {
             let s: Vec<u8> = (0..random(60))
                 .map(|_| [0, 0, 0, 1, 3, 0x65, 0x6E, 0xE5][random(8)])
                 .collect();
             let (piece, limit) = (1 + random(12), 1 + random(20));
-            let open = || Stream::with(&s[..], piece, limit);
+            let open = || Stream::with(&s[..], Table::new(), piece, limit);
             let (mut units, mut heads, mut both) = (open(), open(), open());
-            while let Some(r) = units.next(&table).unwrap() {
+            while let Some(r) = units.next_unit().unwrap() {
                 let head = heads.next_head().unwrap().unwrap();
                 assert_eq!((head.place, head.length), (r.place, r.length), "{s:?}");
                 assert_eq!(head.bytes(), r.bytes());
@@ -577,7 +640,7 @@ mod tests {
                     let r = both.next_head().unwrap().unwrap();
                     assert_eq!((r.place, r.head()), (head.place, head.head()));
                 } else {
-                    let again = both.next(&table).unwrap().unwrap();
+                    let again = both.next_unit().unwrap().unwrap();
                     assert_eq!((again.place, again.unit()), (r.place, r.unit()), "{s:?}");
                 }
             }
@@ -593,13 +656,12 @@ mod tests {
         let zeros = io::repeat(0).take(100_000);
         let unit: &[u8] = &[0, 0, 1, 0x65];
         let source = zeros.chain(unit).chain(io::repeat(0).take(100_000));
-        let mut stream = Stream::with(source.chain(unit), 64, 50_000);
-        let table = Table::new();
+        let mut stream = Stream::with(source.chain(unit), Table::new(), 64, 50_000);
         for place in [100_003, 200_007] {
-            let r = stream.next(&table).unwrap().unwrap();
+            let r = stream.next_unit().unwrap().unwrap();
             assert_eq!((r.place, r.length), (place, 1));
         }
-        assert!(stream.next(&table).unwrap().is_none());
+        assert!(stream.next_unit().unwrap().is_none());
         assert_eq!((stream.buffer.len(), stream.position()), (64, 200_008));
     }
 }

@@ -15,7 +15,7 @@ macro_rules! set {
         }
 
         impl $name {
-            fn from_raw(set: raw::$name) -> $name {
+            pub(crate) fn from_raw(set: raw::$name) -> $name {
                 $name { $($field: set.$field,)* }
             }
 
@@ -78,6 +78,28 @@ set! {
         /// `SliceGroupChangeRate`: `slice_group_change_rate_minus1` and 1; 0 where the slice groups have none
         slice_group_change_rate: u32,
     }
+}
+
+/// A sequence parameter set as a recording has it: with its id. It prints as the word of a table file.
+#[derive(Clone, Copy, Debug, PartialEq, Eq)]
+#[cfg_attr(feature = "serde", derive(serde::Serialize))]
+#[non_exhaustive]
+pub struct SeqParameterSet {
+    /// `seq_parameter_set_id`, 0 to 31
+    pub seq_parameter_set_id: u32,
+    /// What goes into a table under that id.
+    pub sequence: Sequence,
+}
+
+/// A picture parameter set as a recording has it: with its id. It prints as the word of a table file.
+#[derive(Clone, Copy, Debug, PartialEq, Eq)]
+#[cfg_attr(feature = "serde", derive(serde::Serialize))]
+#[non_exhaustive]
+pub struct PicParameterSet {
+    /// `pic_parameter_set_id`, 0 to 255
+    pub pic_parameter_set_id: u32,
+    /// What goes into a table under that id.
+    pub picture: Picture,
 }
 
 /// Sequence sets 0 to 31 and picture sets 0 to 255, as far as slice headers need them.
@@ -163,6 +185,12 @@ impl Table {
     #[doc(hidden)]
     pub fn as_raw(&self) -> &raw::Table {
         &self.0
+    }
+
+    /// The same, to be changed by it.
+    #[doc(hidden)]
+    pub fn as_raw_mut(&mut self) -> &mut raw::Table {
+        &mut self.0
     }
 }
 

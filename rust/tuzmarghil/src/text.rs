@@ -1,6 +1,6 @@
 //! Sets as words of text: `sps:..` and `pps:..`, as table files and case lines have them.
 
-use crate::{Picture, Refusal, Sequence, Table};
+use crate::{PicParameterSet, Picture, Refusal, SeqParameterSet, Sequence, Table};
 use std::fmt;
 use std::str::FromStr;
 
@@ -95,6 +95,49 @@ impl Fields<'_> {
         };
         self.end("picture")?;
         Ok(set)
+    }
+}
+
+impl fmt::Display for SeqParameterSet {
+    fn fmt(&self, f: &mut fmt::Formatter<'_>) -> fmt::Result {
+        let s = &self.sequence;
+        write!(
+            f,
+            "sps:{}:{}:{}:{}:{}:{}:{}:{}:{}:{}",
+            self.seq_parameter_set_id,
+            s.chroma_format_idc,
+            u8::from(s.separate_colour_plane_flag),
+            s.bit_depth_luma_minus8,
+            s.log2_max_frame_num,
+            s.pic_order_cnt_type,
+            s.log2_max_pic_order_cnt_lsb_minus4,
+            u8::from(s.delta_pic_order_always_zero_flag),
+            u8::from(s.frame_mbs_only_flag),
+            s.pic_size_in_map_units,
+        )
+    }
+}
+
+impl fmt::Display for PicParameterSet {
+    fn fmt(&self, f: &mut fmt::Formatter<'_>) -> fmt::Result {
+        let p = &self.picture;
+        write!(
+            f,
+            "pps:{}:{}:{}:{}:{}:{}:{}:{}:{}:{}:{}:{}:{}",
+            self.pic_parameter_set_id,
+            p.seq_parameter_set_id,
+            u8::from(p.entropy_coding_mode_flag),
+            u8::from(p.bottom_field_pic_order_in_frame_present_flag),
+            p.num_ref_idx_l0_default_active_minus1,
+            p.num_ref_idx_l1_default_active_minus1,
+            u8::from(p.weighted_pred_flag),
+            p.weighted_bipred_idc,
+            p.pic_init_qp_minus26,
+            p.pic_init_qs_minus26,
+            u8::from(p.deblocking_filter_control_present_flag),
+            u8::from(p.redundant_pic_cnt_present_flag),
+            p.slice_group_change_rate,
+        )
     }
 }
 

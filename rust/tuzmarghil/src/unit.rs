@@ -1,7 +1,8 @@
 //! Whole units.
 
 use crate::raw::{self, ReadOut, Words};
-use crate::{NalHeader, NalHeaderExtension, PrefixNalUnit, Refusal, SliceHeader, Table, UnitType};
+use crate::{NalHeader, NalHeaderExtension, PicParameterSet, PrefixNalUnit, Refusal};
+use crate::{SeqParameterSet, SliceHeader, Table, UnitType};
 
 /// What a unit's first bytes say, without its body: its type, its nal_ref_idc and its extension.
 #[derive(Clone, Copy, PartialEq, Eq)]
@@ -47,6 +48,10 @@ pub enum Unit {
     Slice(Box<Slice>),
     /// A prefix unit: type 14.
     Prefix(PrefixNalUnit),
+    /// A sequence parameter set: type 7.
+    Sequence(SeqParameterSet),
+    /// A picture parameter set: type 8.
+    Picture(PicParameterSet),
     /// A unit of another type, which is not read.
     Other(UnitType),
 }
@@ -84,7 +89,7 @@ impl Unit {
         }
         let (mut words, mut out) = (Words::default(), ReadOut::default());
         raw::body(table.as_raw(), head.0, unit, scratch, &mut words, &mut out);
-        Reading::new(unit, &out, &words, scratch).unit()
+        Reading::new(table, unit, &out, &words, scratch).unit()
     }
 }
 
@@ -101,39 +106,23 @@ pub struct Slice {
     pub header: SliceHeader,
     /// The slice header's length in bits, in the unescaped body.
     pub bits: usize,
-}
-
-impl Slice {
-    /// The final QP (SliceQPY): 26 + `pic_init_qp_minus26` + `slice_qp_delta`; nothing where the picture set is not in the table.
+    /// The final QP (SliceQPY), by the table that the slice was read by: 26 + `pic_init_qp_minus26` + `slice_qp_delta`.
     ///
     /// ```
     /// use tuzmarghil::{read_unit, Table, Unit};
     ///
-    /// let table = Table::sample();
-    /// if let Unit::Slice(slice) = read_unit(&table, &[0x65, 0x88, 0x84, 0xA0], &mut Vec::new())? {
-    ///     assert_eq!(slice.qp(&table), Some(26));
-    ///     assert_eq!(slice.qp(&Table::new()), None);
+    /// if let Unit::Slice(slice) = read_unit(&Table::sample(), &[0x65, 0x88, 0x84, 0xA0], &mut Vec::new())? {
+    ///     assert_eq!((slice.qp, slice.qs), (26, None));
     /// }
     /// # Ok::<(), tuzmarghil::Refusal>(())
     /// ```
-    pub fn qp(&self, table: &Table) -> Option<i64> {
-        let (id, delta) = (self.header.pic_parameter_set_id, self.header.slice_qp_delta);
-        table.picture(id)?;
-        Some(raw::final_qp(table.as_raw(), id, delta))
-    }
-
+    pub qp: i64,
     /// The final QS (QSY), of slices of types SP and SI.
-    pub fn qs(&self, table: &Table) -> Option<i64> {
-        let (id, delta) = (
-            self.header.pic_parameter_set_id,
-            self.header.slice_qs_delta?,
-        );
-        table.picture(id)?;
-        Some(raw::final_qs(table.as_raw(), id, delta))
-    }
+    pub qs: Option<i64>,
 }
 
 /// Reads a unit, from its first byte on and escaped as it stands in the recording, by the sets of a table: its head ([`Unit::head`]), then its body ([`Unit::body`]).
+/// A parameter set is read, and the table stays as it is: the walk ([`crate::reports`], [`crate::Stream`]) is what puts it there.
 ///
 /// `scratch` takes the unescaped body; it grows to the unit's length and can be used again.
 ///
@@ -175,29 +164,30 @@ pub struct UnitReader {
 
 impl UnitReader {
     /// Reads a unit, as [`read_unit`] does.
-    pub fn read<'a>(&'a mut self, table: &Table, unit: &'a [u8]) -> Reading<'a> {
+    pub fn read<'a>(&'a mut self, table: &'a Table, unit: &'a [u8]) -> Reading<'a> {
         if self.scratch.len() < unit.len() {
             self.scratch.resize(unit.len(), 0);
         }
         let (scratch, words, out) = (&mut self.scratch, &mut self.words, &mut self.out);
         raw::read_unit(table.as_raw(), unit, scratch, words, out);
-        Reading::new(unit, out, words, scratch)
+        Reading::new(table, unit, out, words, scratch)
     }
 
     /// Reads the body of a unit whose head is known, as [`Unit::body`] does.
-    pub fn body<'a>(&'a mut self, table: &Table, head: UnitHead, unit: &'a [u8]) -> Reading<'a> {
+    pub fn body<'a>(&'a mut self, table: &'a Table, head: UnitHead, unit: &'a [u8]) -> Reading<'a> {
         if self.scratch.len() < unit.len() {
             self.scratch.resize(unit.len(), 0);
         }
         let (scratch, words, out) = (&mut self.scratch, &mut self.words, &mut self.out);
         raw::body(table.as_raw(), head.0, unit, scratch, words, out);
-        Reading::new(unit, out, words, scratch)
+        Reading::new(table, unit, out, words, scratch)
     }
 }
 
 /// What reading a unit gave. Its parts belong together, so nobody else makes one.
 #[derive(Clone, Copy)]
 pub struct Reading<'a> {
+    table: &'a Table,
     bytes: &'a [u8],
     read: &'a ReadOut,
     words: &'a Words,
@@ -206,12 +196,14 @@ pub struct Reading<'a> {
 
 impl<'a> Reading<'a> {
     pub(crate) fn new(
+        table: &'a Table,
         bytes: &'a [u8],
         read: &'a ReadOut,
         words: &'a Words,
         scratch: &'a [u8],
     ) -> Reading<'a> {
         Reading {
+            table,
             bytes,
             read,
             words,
@@ -232,19 +224,32 @@ impl<'a> Reading<'a> {
             0 => Ok(Unit::Other(
                 UnitType::for_id(out.number as u8).expect("a unit has a type"),
             )),
-            1 => Ok(Unit::Slice(Box::new(Slice {
-                nal_header: NalHeader::from_byte(first),
-                extension: NalHeaderExtension::of_unit(unit),
-                header: SliceHeader::from_raw(&words.header(), words),
-                bits: out.bits,
-            }))),
+            1 => {
+                let header = SliceHeader::from_raw(&words.header(), words);
+                let (table, id) = (self.table.as_raw(), header.pic_parameter_set_id);
+                Ok(Unit::Slice(Box::new(Slice {
+                    nal_header: NalHeader::from_byte(first),
+                    extension: NalHeaderExtension::of_unit(unit),
+                    bits: out.bits,
+                    qp: raw::final_qp(table, id, header.slice_qp_delta),
+                    qs: header.slice_qs_delta.map(|d| raw::final_qs(table, id, d)),
+                    header,
+                })))
+            }
             2 => Ok(Unit::Prefix(PrefixNalUnit::from_raw(
                 unit,
                 &out.prefix,
                 words,
             ))),
+            4 => Ok(Unit::Sequence(out.sequence_set())),
+            5 => Ok(Unit::Picture(out.picture_set())),
             _ => Err(out.refusal()),
         }
+    }
+
+    /// The table: of a slice, the one that it was read by; of a set that a walk met, with that set in it.
+    pub fn table(&self) -> &'a Table {
+        self.table
     }
 
     /// The answer as the proved library gives it, and the words that go with it.

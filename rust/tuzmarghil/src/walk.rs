@@ -16,21 +16,22 @@ pub struct Report {
     pub unit: Result<Unit, Refusal>,
 }
 
-/// The units of a recording that lies in memory, in order: one for each start code. A recording of over [`LIMIT`] bytes is refusal 27; [`crate::Stream`] takes any.
+/// The units of a recording that lies in memory, in order: one for each start code. A parameter set that is read goes into the table, which the slices behind it are
+/// read by; one that is refused leaves it as it was. A recording of over [`LIMIT`] bytes is refusal 27; [`crate::Stream`] takes any.
 ///
 /// ```
 /// use tuzmarghil::{reports, Table, Unit, UnitType};
 ///
 /// let recording = [0, 0, 0, 1, 0xE5, 0x88, 0, 0, 1, 0x09, 0xF0];
-/// let table = Table::new();
-/// let found: Vec<_> = reports(&table, &recording)?.collect();
+/// let mut table = Table::new();
+/// let found: Vec<_> = reports(&mut table, &recording)?.collect();
 /// assert_eq!((found[0].place, found[0].length), (4, 2));
 /// assert_eq!(found[0].unit.as_ref().unwrap_err().number, 2);
 /// assert_eq!((found[1].place, found[1].length), (9, 2));
 /// assert_eq!(found[1].unit, Ok(Unit::Other(UnitType::AccessUnitDelimiter)));
 /// # Ok::<(), tuzmarghil::Refusal>(())
 /// ```
-pub fn reports<'a>(table: &'a Table, recording: &'a [u8]) -> Result<Reports<'a>, Refusal> {
+pub fn reports<'a>(table: &'a mut Table, recording: &'a [u8]) -> Result<Reports<'a>, Refusal> {
     if recording.len() > LIMIT {
         return Err(Refusal::new(27, 0));
     }
@@ -46,12 +47,19 @@ pub fn reports<'a>(table: &'a Table, recording: &'a [u8]) -> Result<Reports<'a>,
 
 /// The iterator of [`reports`].
 pub struct Reports<'a> {
-    table: &'a Table,
+    table: &'a mut Table,
     recording: &'a [u8],
     from: usize,
     scratch: Vec<u8>,
     words: Box<Words>,
     out: WalkOut,
+}
+
+impl Reports<'_> {
+    /// The table after the units that have been reported.
+    pub fn table(&self) -> &Table {
+        self.table
+    }
 }
 
 impl Iterator for Reports<'_> {
@@ -60,7 +68,7 @@ impl Iterator for Reports<'_> {
     fn next(&mut self) -> Option<Report> {
         let out = &mut self.out;
         raw::walk(
-            self.table.as_raw(),
+            self.table.as_raw_mut(),
             self.recording,
             self.from,
             &mut self.scratch,
@@ -75,7 +83,7 @@ impl Iterator for Reports<'_> {
         Some(Report {
             place: out.place,
             length: out.length,
-            unit: Reading::new(bytes, &out.read, &self.words, &self.scratch).unit(),
+            unit: Reading::new(self.table, bytes, &out.read, &self.words, &self.scratch).unit(),
         })
     }
 }

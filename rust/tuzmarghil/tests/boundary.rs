@@ -139,6 +139,167 @@ fn prefix_unit() -> Vec<u8> {
     b.unit(&[0x6E, 0x92, 0xA9, 0x74])
 }
 
+/// A sequence set as a unit (7.3.2.1.1) of profile 244; one row of map units.
+fn sequence_unit(id: u32, s: &Sequence) -> Vec<u8> {
+    let mut b = Bits::default();
+    b.u(8, 244).u(8, 0).u(8, 62).ue(id).ue(s.chroma_format_idc);
+    if s.chroma_format_idc == 3 {
+        b.u(1, s.separate_colour_plane_flag.into());
+    }
+    b.ue(s.bit_depth_luma_minus8).ue(71).u(1, 0);
+    // two scaling lists, of which one ends early
+    b.u(1, 1).u(1, 1).se(-8).u(5, 0).u(1, 1);
+    for _ in 0..64 {
+        b.se(2);
+    }
+    b.u(if s.chroma_format_idc == 3 { 5 } else { 1 }, 0);
+    b.ue(s.log2_max_frame_num - 4).ue(s.pic_order_cnt_type);
+    match s.pic_order_cnt_type {
+        0 => {
+            b.ue(s.log2_max_pic_order_cnt_lsb_minus4);
+        }
+        1 => {
+            b.u(1, s.delta_pic_order_always_zero_flag.into());
+            b.se(-70_000).se(3).ue(2).se(5).se(-6);
+        }
+        _ => {}
+    }
+    b.ue(4).u(1, 0).ue(s.pic_size_in_map_units - 1).ue(0);
+    b.u(1, s.frame_mbs_only_flag.into()).u(1, 1);
+    b.unit(&[0x67])
+}
+
+/// A picture set as a unit (7.3.2.2); a change rate makes three slice groups of type 5.
+fn picture_unit(id: u32, p: &Picture) -> Vec<u8> {
+    let mut b = Bits::default();
+    b.ue(id).ue(p.seq_parameter_set_id);
+    b.u(1, p.entropy_coding_mode_flag.into());
+    b.u(1, p.bottom_field_pic_order_in_frame_present_flag.into());
+    match p.slice_group_change_rate {
+        0 => b.ue(0),
+        rate => b.ue(2).ue(5).u(1, 1).ue(rate - 1),
+    };
+    b.ue(p.num_ref_idx_l0_default_active_minus1);
+    b.ue(p.num_ref_idx_l1_default_active_minus1);
+    b.u(1, p.weighted_pred_flag.into());
+    b.u(2, p.weighted_bipred_idc);
+    b.se(p.pic_init_qp_minus26).se(p.pic_init_qs_minus26).se(-9);
+    b.u(1, p.deblocking_filter_control_present_flag.into());
+    b.u(1, 1)
+        .u(1, p.redundant_pic_cnt_present_flag.into())
+        .u(1, 1);
+    b.unit(&[0x68])
+}
+
+/// Sets that are read from units are those that the units were made from, and print as the words that put them; the walk puts them, and reading alone does not.
+#[test]
+fn sets_arrive() {
+    let mut by_walk = Table::new();
+    for id in 0..256 {
+        let mut want = sequence(id);
+        // what an order count type does not have is zero
+        if want.pic_order_cnt_type != 0 {
+            want.log2_max_pic_order_cnt_lsb_minus4 = 0;
+        }
+        if want.pic_order_cnt_type != 1 {
+            want.delta_pic_order_always_zero_flag = false;
+        }
+        let (sps, pps) = (
+            sequence_unit(id % 32, &want),
+            picture_unit(id, &picture(id)),
+        );
+        let mut by_word = Table::new();
+        match read_unit(&Table::new(), &sps, &mut Vec::new()).unwrap() {
+            Unit::Sequence(set) => {
+                assert_eq!((set.seq_parameter_set_id, set.sequence), (id % 32, want));
+                by_word.put_word(&set.to_string()).unwrap();
+            }
+            other => panic!("{other:?}"),
+        }
+        match read_unit(&Table::new(), &pps, &mut Vec::new()).unwrap() {
+            Unit::Picture(set) => {
+                assert_eq!((set.pic_parameter_set_id, set.picture), (id, picture(id)));
+                by_word.put_word(&set.to_string()).unwrap();
+            }
+            other => panic!("{other:?}"),
+        }
+        assert_eq!(by_word.sequence(id % 32), Some(want));
+        assert_eq!(by_word.picture(id), Some(picture(id)));
+        let recording = [&[0, 0, 1][..], &sps, &[0, 0, 1], &pps].concat();
+        assert_eq!(reports(&mut by_walk, &recording).unwrap().count(), 2);
+        assert_eq!(by_walk.sequence(id % 32), Some(want));
+        assert_eq!(by_walk.picture(id), Some(picture(id)));
+    }
+
+    // the lines of a listing
+    let sps = sequence_unit(31, &sequence(2));
+    let pps = picture_unit(255, &picture(2));
+    let recording = [&[0, 0, 1][..], &sps, &[0, 0, 1], &pps].concat();
+    let mut stream = Stream::new(&recording[..]);
+    for told in ["sps id=31", "pps id=255"] {
+        let r = stream.next_unit().unwrap().unwrap();
+        let ((read, words), mut line) = (r.raw(), [0; 128]);
+        let (table, place, length) = (r.table().as_raw(), r.place as usize, r.bytes().len());
+        let line = raw::unit_line(&mut line, table, place, length, r.bytes(), read, words);
+        let want = format!("unit place={place} length={length} {told}\n");
+        assert_eq!(String::from_utf8_lossy(line), want);
+    }
+}
+
+/// QP and QS of a slice are those of the table that it was read by: sets that come later do not change them.
+#[test]
+fn levels_of_the_table_in_force() {
+    let sps = sequence_unit(0, &Table::sample().sequence(0).unwrap());
+    let set = |qp, qs| {
+        let mut set = Picture::default();
+        (set.pic_init_qp_minus26, set.pic_init_qs_minus26) = (qp, qs);
+        picture_unit(0, &set)
+    };
+    let mut b = Bits::default();
+    b.ue(0)
+        .ue(8)
+        .ue(0)
+        .u(4, 0)
+        .u(1, 0)
+        .u(1, 0)
+        .se(3)
+        .u(1, 0)
+        .se(-2); // SP
+    b.u(8, 0xFF);
+    let slice = b.unit(&[0x01]);
+    let units = [&sps, &set(4, -6), &slice, &set(-7, 9), &slice, &set(0, 0)];
+    let recording: Vec<u8> = units
+        .iter()
+        .flat_map(|u| [&[0, 0, 1][..], u].concat())
+        .collect();
+    let mut table = Table::new();
+    let found: Vec<_> = reports(&mut table, &recording).unwrap().collect();
+    let levels: Vec<_> = found
+        .iter()
+        .filter_map(|r| match &r.unit {
+            Ok(Unit::Slice(slice)) => Some((slice.qp, slice.qs)),
+            Ok(_) => None,
+            Err(refusal) => panic!("{refusal}"),
+        })
+        .collect();
+    assert_eq!(levels, [(33, Some(18)), (22, Some(33))]);
+}
+
+/// A slice group map of type 6 names a group for each of 2^32 - 1 map units, and the body has a byte for them: the first that lacks bits is refused, at once.
+#[test]
+fn group_ids_are_not_counted_out() {
+    for (groups, width) in [(1u32, 1), (2, 2), (3, 2), (4, 3), (7, 3)] {
+        let mut b = Bits::default();
+        b.ue(0).ue(0).u(2, 0).ue(groups).ue(6);
+        b.u(31, 0).u(32, u32::MAX); // pic_size_in_map_units_minus1 is 2^32 - 2
+        let from = b.0.len();
+        b.u(32 - from as u32 % 8, 0xAAAA_AAAA);
+        let whole = (b.0.len() - from) / width;
+        let told = read_unit(&Table::new(), &b.unit(&[0x68]), &mut Vec::new());
+        assert_eq!(told, Err(Refusal::at(5, 0, from + whole * width)));
+    }
+}
+
 /// Entries of a list or of weights, over the front of words.
 fn put<T: Copy, const N: usize>(words: &mut [T], entries: &[[T; N]]) {
     let entries = entries.concat();
@@ -268,7 +429,7 @@ fn fields_arrive() {
         slice_group_change_cycle: Some(11),
     };
     assert_eq!(slice.header, want);
-    assert_eq!(slice.qp(&table), Some(13));
+    assert_eq!((slice.qp, slice.qs), (13, None));
 
     // and back to the words that the library gave
     let (mut words, mut out) = (raw::Words::default(), raw::ReadOut::default());
@@ -294,7 +455,7 @@ fn full() -> raw::Words {
 type Change = fn(&mut raw::Words);
 
 /// Units of every answer, with the answer and what reading does to words.
-fn answers(slice: &[u8]) -> [(Vec<u8>, u32, Change); 5] {
+fn answers(slice: &[u8]) -> [(Vec<u8>, u32, Change); 8] {
     let cleared = |words: &mut raw::Words| *words = raw::Words::default();
     let of_prefix = |words: &mut raw::Words| {
         words.base = [0; 198];
@@ -308,6 +469,9 @@ fn answers(slice: &[u8]) -> [(Vec<u8>, u32, Change); 5] {
         (torn, 3, cleared),
         (vec![0x09, 0xF0], 0, |_| {}),
         (vec![], 3, cleared),
+        (sequence_unit(5, &sequence(12)), 4, |_| {}),
+        (picture_unit(77, &picture(77)), 5, |_| {}),
+        (vec![0x68, 0xCE], 3, cleared),
     ]
 }
 
@@ -316,7 +480,7 @@ fn answers(slice: &[u8]) -> [(Vec<u8>, u32, Change); 5] {
 #[test]
 fn words_arrive() {
     let (table, slice, ..) = b_field();
-    let (mut scratch, mut out) = (vec![0; slice.len()], raw::ReadOut::default());
+    let (mut scratch, mut out) = (vec![0; 200], raw::ReadOut::default());
     for (unit, answer, change) in answers(&slice) {
         let (mut words, mut want) = (full(), full());
         change(&mut want);
@@ -330,7 +494,7 @@ fn words_arrive() {
 /// A walk does the same to words, and so do those who keep words for many units.
 #[test]
 fn words_of_a_walk() {
-    let (table, slice, ..) = b_field();
+    let (start, slice, ..) = b_field();
     let answers = answers(&slice);
     let recording: Vec<u8> = answers
         .iter()
@@ -338,30 +502,39 @@ fn words_of_a_walk() {
         .collect();
     let mut scratch = vec![0; recording.len()];
     let (mut step, mut from) = (raw::WalkOut::default(), 0);
-    let mut walk = |step: &mut raw::WalkOut, from| {
+    let mut table = start.clone();
+    let mut walk = |table: &mut Table, step: &mut raw::WalkOut, from| {
         let mut words = full();
-        let to = &mut words;
-        raw::walk(table.as_raw(), &recording, from, &mut scratch, to, step);
+        let (table, to) = (table.as_raw_mut(), &mut words);
+        raw::walk(table, &recording, from, &mut scratch, to, step);
         words
     };
-    let mut reports = reports(&table, &recording).unwrap();
-    let mut stream = Stream::new(&recording[..]);
+    let mut lent = start.clone();
+    let mut reports = reports(&mut lent, &recording).unwrap();
+    let mut stream = Stream::with_table(&recording[..], start);
     let mut kept = raw::Words::default();
     for (unit, answer, change) in &answers {
-        let (words, mut want) = (walk(&mut step, from), full());
+        let typed = read_unit(&table, unit, &mut Vec::new());
+        let (words, mut want) = (walk(&mut table, &mut step, from), full());
         change(&mut want);
         assert_eq!((step.step, step.read.answer, words), (1, *answer, want));
         from = step.next;
-        let typed = read_unit(&table, unit, &mut Vec::new());
         assert_eq!(reports.next().unwrap().unit, typed);
-        let report = stream.next(&table).unwrap().unwrap();
+        assert_eq!(*reports.table(), table);
+        let report = stream.next_unit().unwrap().unwrap();
+        assert_eq!(*report.table(), table);
         change(&mut kept);
         let (read, words) = report.raw();
         assert_eq!((report.bytes(), words), (&unit[..], &kept));
         assert_eq!((*read, report.unit()), (step.read, typed));
     }
-    assert_eq!((walk(&mut step, from), step.step), (full(), 0));
-    assert!(reports.next().is_none() && stream.next(&table).unwrap().is_none());
+    let before = table.clone();
+    let words = walk(&mut table, &mut step, from);
+    assert_eq!((words, step.step, &table), (full(), 0, &before));
+    assert!(reports.next().is_none() && stream.next_unit().unwrap().is_none());
+    assert_eq!(table.sequence(5), Some(sequence(12)));
+    assert_eq!(table.picture(77), Some(picture(77)));
+    assert_eq!((stream.table(), &lent), (&table, &table));
 }
 
 /// What an earlier unit left in words does not show in the records of a later one.
@@ -498,15 +671,17 @@ fn sums_do_not_wrap() {
         Ok(Unit::Slice(slice)) => slice,
         other => panic!("{other:?}"),
     };
-    assert_eq!((slice.qp(&table), slice.qs(&table)), (Some(26), None));
+    assert_eq!((slice.qp, slice.qs), (26, None));
+    let header = &mut slice.header;
+    assert_eq!((header.qp(&table), header.qs(&table)), (Some(26), None));
     for delta in [i32::MIN, i32::MAX] {
-        slice.header.slice_qp_delta = delta;
-        slice.header.slice_qs_delta = Some(delta);
+        header.slice_qp_delta = delta;
+        header.slice_qs_delta = Some(delta);
         let sum = Some(26 + i64::from(delta));
-        assert_eq!((slice.qp(&table), slice.qs(&table)), (sum, sum));
+        assert_eq!((header.qp(&table), header.qs(&table)), (sum, sum));
     }
-    slice.header.pic_parameter_set_id = 1;
-    assert_eq!((slice.qp(&table), slice.qs(&table)), (None, None));
+    header.pic_parameter_set_id = 1;
+    assert_eq!((header.qp(&table), header.qs(&table)), (None, None));
 }
 
 /// What no words can hold is refused by the library, in its place: every check that comes before 25 comes first.
@@ -568,7 +743,7 @@ fn the_place_of_a_refusal() {
     alone.put_picture(0, Picture::default()).unwrap();
     // a list of 67: the code of its last entry begins behind 66 entries of two bits
     let long = [&[0x01, 0xFE][..], &[0xFF; 17]].concat();
-    let cases: [(&Table, &[u8], Refusal); 15] = [
+    let cases: [(&Table, &[u8], Refusal); 20] = [
         (&sample, &[], Refusal::new(1, 0)),
         (&sample, &[0xE5, 0x88], Refusal::new(2, 0)),
         (&sample, &[0x74, 0x40, 1], Refusal::new(4, 0)),
@@ -593,17 +768,29 @@ fn the_place_of_a_refusal() {
         (&sample, &[0x65, 0x88, 0x84, 0x80], Refusal::at(22, 0, 17)),
         (&sample, &[0x6E, 0x80, 0, 7, 0xC8], Refusal::at(23, 3, 2)),
         (&sample, &[0x6E, 0x80, 0, 7], Refusal::at(5, 0, 0)),
+        (&sample, &[0x67], Refusal::at(5, 0, 0)),
+        (&sample, &[0x67, 66, 192], Refusal::at(5, 0, 16)),
+        // the id is 32
+        (
+            &sample,
+            &[0x67, 66, 0, 10, 0x04, 0x20],
+            Refusal::at(28, 0, 24),
+        ),
+        (&sample, &[0x68], Refusal::at(5, 0, 0)),
+        // the sequence set's id is 32
+        (&sample, &[0x68, 0x82, 0x10], Refusal::at(28, 0, 1)),
     ];
     for (table, unit, refusal) in cases {
         let refused = Err(refusal);
         assert_eq!(read_unit(table, unit, &mut Vec::new()), refused);
         assert_eq!(UnitReader::default().read(table, unit).unit(), refused);
         let recording = [&[0, 0, 1], unit].concat();
-        let found: Vec<_> = reports(table, &recording).unwrap().collect();
-        assert_eq!(found[0].unit, refused);
-        let mut stream = Stream::new(&recording[..]);
-        let report = stream.next(table).unwrap().unwrap();
-        assert_eq!(report.unit(), refused);
+        let mut lent = table.clone();
+        let found: Vec<_> = reports(&mut lent, &recording).unwrap().collect();
+        assert_eq!((&found[0].unit, &lent), (&refused, table));
+        let mut stream = Stream::with_table(&recording[..], table.clone());
+        let report = stream.next_unit().unwrap().unwrap();
+        assert_eq!((report.unit(), report.table()), (refused, table));
 
         // the listing tells it, and so does the refusal's own text
         let (read, words) = report.raw();
@@ -623,9 +810,12 @@ fn the_place_of_a_refusal() {
 
     // scratch is too short: the body is not read
     let (mut words, mut out) = (raw::Words::default(), raw::ReadOut::default());
-    let unit = [0x65, 0x88, 0x84, 0xA0];
-    raw::read_unit(sample.as_raw(), &unit, &mut [0; 3], &mut words, &mut out);
-    assert_eq!((out.answer, out.refusal()), (3, Refusal::new(26, 4)));
+    for first in [0x65, 0x67, 0x68] {
+        let (unit, mut scratch) = ([first, 0x88, 0x84, 0xA0], [7; 3]);
+        raw::read_unit(sample.as_raw(), &unit, &mut scratch, &mut words, &mut out);
+        assert_eq!((out.answer, out.refusal()), (3, Refusal::new(26, 4)));
+        assert_eq!(scratch, [7; 3]);
+    }
 }
 
 /// The longest line that there can be, of whatever numbers, ends in its buffer.
@@ -878,7 +1068,7 @@ fn random(mut state: u64) -> impl FnMut(usize) -> usize {
 fn head_and_body_in_turn() {
     let (table, mut random) = (Table::sample(), random(88172645463325252));
     let firsts = [
-        0x65, 0x41, 0x01, 0x6E, 0x0E, 0x74, 0x15, 0x67, 0x09, 0xE5, 0x80,
+        0x65, 0x41, 0x01, 0x6E, 0x0E, 0x74, 0x15, 0x67, 0x68, 0x09, 0xE5, 0x80,
     ];
     let mut met = [0; 40];
     for _ in 0..20_000 {
@@ -891,8 +1081,9 @@ fn head_and_body_in_turn() {
         (remains.numbers[29], remains.l0[1], remains.base[2]) = (1, 7, 9);
         let (mut words, mut scratch) = (remains.clone(), [5; 12]);
         let mut walked = raw::WalkOut::default();
+        let mut after = table.clone();
         raw::walk(
-            table.as_raw(),
+            after.as_raw_mut(),
             &recording,
             0,
             &mut scratch,
@@ -919,6 +1110,9 @@ fn head_and_body_in_turn() {
         }
         assert_eq!(out, walked.read, "{unit:?}");
         assert_eq!((own_scratch, own == words), (scratch, true), "{unit:?}");
+        let mut put = table.clone();
+        raw::put_read(put.as_raw_mut(), &out);
+        assert_eq!(put, after, "{unit:?}");
         assert_eq!(
             Unit::head(&unit).and_then(|head| Unit::body(&table, head, &unit, &mut Vec::new())),
             read_unit(&table, &unit, &mut Vec::new())
@@ -929,7 +1123,7 @@ fn head_and_body_in_turn() {
             30 + out.answer as usize
         }] += 1;
     }
-    for kind in [1, 2, 4, 5, 30, 31, 32] {
+    for kind in [1, 2, 4, 5, 28, 30, 31, 32, 35] {
         assert!(met[kind] > 0, "{kind}");
     }
 }
@@ -1066,7 +1260,7 @@ fn heads_and_their_lines() {
 /// A step without reading is the walk's.
 #[test]
 fn steps_without_reading() {
-    let (table, mut random) = (Table::new(), random(1442695040888963407));
+    let (mut table, mut random) = (Table::new(), random(1442695040888963407));
     for _ in 0..2_000 {
         let s: Vec<u8> = (0..random(60))
             .map(|_| [0, 0, 0, 1, 3, 0x65][random(6)])
@@ -1074,7 +1268,8 @@ fn steps_without_reading() {
         for from in 0..=s.len() + 1 {
             let (mut words, mut scratch) = (raw::Words::default(), vec![0; s.len()]);
             let mut out = raw::WalkOut::default();
-            raw::walk(table.as_raw(), &s, from, &mut scratch, &mut words, &mut out);
+            let table = table.as_raw_mut();
+            raw::walk(table, &s, from, &mut scratch, &mut words, &mut out);
             let step = raw::next_unit(&s, from);
             assert_eq!(
                 (step.step, step.number, step.value),

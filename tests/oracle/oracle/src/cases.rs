@@ -35,6 +35,7 @@ pub fn run(path: &str, tables: bool, trace: bool) {
     let mut out = std::io::BufWriter::with_capacity(1 << 20, std::io::stdout().lock());
     let mut ctx = Context::new();
     let mut aux = Context::new();
+    let broad = crate::sets::broad();
     let mut status: Vec<Result<(), String>> = vec![];
     let mut before: Option<&[u8]> = None;
     for line in data.split(|c| *c == b'\n') {
@@ -57,7 +58,7 @@ pub fn run(path: &str, tables: bool, trace: bool) {
         let l = if tables {
             table_words(&ctx, &status)
         } else {
-            unit_line(&ctx, &unhex(unit), trace)
+            unit_line(&ctx, &broad, &unhex(unit), trace)
         };
         out.write_all(l.as_bytes()).unwrap();
         out.write_all(b"\n").unwrap();

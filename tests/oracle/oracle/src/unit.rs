@@ -1,5 +1,6 @@
 //! One unit read as a user of the crate would, and once more with every read noted.
 use crate::refusals::{io_error, refused, slice_error};
+use crate::sets::set_line;
 use crate::trace::Tracer;
 use crate::words::{b, prefix_words, slice_words};
 use h264_reader::nal::pps::PicParameterSet;
@@ -98,7 +99,8 @@ pub fn all_bytes(mut r: impl Read) -> Option<Vec<u8>> {
     Some(v)
 }
 
-pub fn unit_line(ctx: &Context, unit: &[u8], trace: bool) -> String {
+/// A unit's line; picture sets are read under `broad`.
+pub fn unit_line(ctx: &Context, broad: &Context, unit: &[u8], trace: bool) -> String {
     if unit.is_empty() {
         // RefNal::new panics here; the rules have 1.
         return refused(1, 0);
@@ -174,6 +176,9 @@ pub fn unit_line(ctx: &Context, unit: &[u8], trace: bool) -> String {
                 }
             }
             out
+        }
+        UnitType::SeqParameterSet | UnitType::PicParameterSet => {
+            set_line(broad, unit, all_bytes(nal.rbsp_bytes()), trace)
         }
         _ => format!("other type={}", ty.id()),
     }

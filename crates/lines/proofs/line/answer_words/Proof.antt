@@ -5,7 +5,7 @@ use lib.ListN.{getD}
 use mir.Facts.{toZ-ofZ}
 use mir.Syntax.{w32, w64}
 use mir.Val.{SFits}
-use Rattle.lines.proofs.Decimals.{decimal-8}
+use Rattle.lines.proofs.Decimals.{decimal-8, decimal-32}
 use Rattle.lines.proofs.line.answer_words.Statement.{statement}
 use Rattle.lines.proofs.line.answer_words.Tie as tie
 
@@ -13,7 +13,13 @@ enum-told : tie.Need-enum-told
 enum-told c = search needs
 
 field-requires : tie.Need-field-requires
-field-requires c κs = omega (arith, decimal-8 (c .before .before .before .answer .given .0 .0) (search needs))
+field-requires c κs = omega (arith, decimal-32 (c .before .before .before .before .answer .given .0 .0 .«seq_parameter_set_id») (search needs))
+
+field-requires-2 : tie.Need-field-requires-2
+field-requires-2 c κs = omega (arith, decimal-32 (c .before .before .before .before .answer2 .given .0 .0 .«pic_parameter_set_id») (search needs))
+
+field-requires-3 : tie.Need-field-requires-3
+field-requires-3 c κs = omega (arith, decimal-8 (c .before .before .before .answer3 .given .0 .0) (search needs))
 
 returns : tie.Need-returns
 returns c =
@@ -25,10 +31,16 @@ returns-2 : tie.Need-returns-2
 returns-2 c = rw (c .before .before .before .enum-told2 .given .1) (rw (c .before .is-svc .ensures) at (c .prefix-words .ensures))
 
 returns-3 : tie.Need-returns-3
-returns-3 c = rw (c .before .before .before .before .answer .given .1) (c .field .ensures, omega (arith, decimal-8 (c .before .before .before .before .answer .given .0 .0) (search needs)))
+returns-3 c = rw (c .before .before .before .before .before .answer .given .1) (c .field .ensures, omega (arith, decimal-32 (c .before .before .before .before .before .answer .given .0 .0 .«seq_parameter_set_id») (search needs)))
 
 returns-4 : tie.Need-returns-4
-returns-4 c = rw (c .before .before .before .answer2 .given .1) (c .refused-words .ensures)
+returns-4 c = rw (c .before .before .before .before .before .answer2 .given .1) (c .field2 .ensures, omega (arith, decimal-32 (c .before .before .before .before .before .answer2 .given .0 .0 .«pic_parameter_set_id») (search needs)))
+
+returns-5 : tie.Need-returns-5
+returns-5 c = rw (c .before .before .before .before .answer3 .given .1) (c .field3 .ensures, omega (arith, decimal-8 (c .before .before .before .before .answer3 .given .0 .0) (search needs)))
+
+returns-6 : tie.Need-returns-6
+returns-6 c = rw (c .before .before .before .answer4 .given .1) (c .refused-words .ensures)
 
 pub answer-words-spec : {M : Type 1} → statement M
 answer-words-spec =
@@ -49,8 +61,18 @@ answer-words-spec =
     (λ c. search needs)
     field-requires
     (λ c. search needs)
+    (λ c. search needs)
+    (λ c. search needs)
+    field-requires-2
+    (λ c. search needs)
+    (λ c. search needs)
+    (λ c. search needs)
+    field-requires-3
+    (λ c. search needs)
     (λ c κs. search needs)
     returns
     returns-2
     returns-3
-    returns-4)
+    returns-4
+    returns-5
+    returns-6)

@@ -8,25 +8,34 @@ use Rattle.list_steps.proofs.step.list_step.Statement.{statement}
 use Rattle.list_steps.proofs.step.list_step.Tie as tie
 
 returns : tie.Need-returns
-returns c = rw (turn-long (tableOf (c .before .before .before .before .before .args .sequences .now) (c .before .before .before .before .before .args .pictures .now)) (c .before .before .before .before .before .args .recording .now) (c .before .before .before .before .before .args .state) (c .before .before .before .before .before .args .scratch .now) (omega arith)) (ends (c .too-long .ensures) (c .before .before .before .before .before .args .scratch .now))
+returns c = let a = c .before .before .before .before .before .args in rw (turn-long (tableOf (a .sequences .now) (a .pictures .now)) (a .recording .now) (a .state) (a .scratch .now) (omega arith)) (ends (c .too-long .ensures) _ _)
 
 add-end : tie.Need-add-end
-add-end c = record { fits = omega (arith, inside (tableOf (c .before .before .before .before .before .before .before .before .before .before .args .sequences .now) (c .before .before .before .before .before .before .before .before .before .before .args .pictures .now)) (c .before .before .before .before .before .before .before .before .before .before .args .recording .now) (c .before .before .before .before .before .before .before .before .before .before .args .state .from) (c .before .before .before .before .before .before .before .before .before .before .args .scratch .now) (omega arith) (c .before .before .before .before .before .walk-on .ensures) (c .before .step .given .1)) }
+add-end c = let a = c .before .before .before .before .before .before .before .before .before .before .before .before .args in record { fits = omega (arith, inside (tableOf (a .sequences .now) (a .pictures .now)) (a .recording .now) (a .state .from) (a .scratch .now) (omega arith) (c .before .before .before .before .before .walk-on .ensures) (c .before .step .given .1)) }
 
 part-unit-end : tie.Need-part-unit-end
-part-unit-end c = inside (tableOf (c .before .before .before .before .before .before .before .before .before .before .before .before .args .sequences .now) (c .before .before .before .before .before .before .before .before .before .before .before .before .args .pictures .now)) (c .before .before .before .before .before .before .before .before .before .before .before .before .args .recording .now) (c .before .before .before .before .before .before .before .before .before .before .before .before .args .state .from) (c .before .before .before .before .before .before .before .before .before .before .before .before .args .scratch .now) (omega arith) (c .before .before .before .before .before .before .before .walk-on .ensures) (c .before .before .before .step .given .1)
+part-unit-end c = let a = c .before .before .before .before .before .before .before .before .before .before .before .before .before .before .args in inside (tableOf (a .sequences .now) (a .pictures .now)) (a .recording .now) (a .state .from) (a .scratch .now) (omega arith) (c .before .before .before .before .before .before .before .walk-on .ensures) (c .before .before .before .step .given .1)
 
 enum-told : tie.Need-enum-told
 enum-told c = search needs
 
 returns-2 : tie.Need-returns-2
-returns-2 c = unit-stepped (tableOf (c .before .before .before .before .before .before .before .before .before .before .before .before .before .before .before .before .before .before .before .args .sequences .now) (c .before .before .before .before .before .before .before .before .before .before .before .before .before .before .before .before .before .before .before .args .pictures .now)) (c .before .before .before .before .before .before .before .before .before .before .before .before .before .before .before .before .before .before .before .args .recording .now) (c .before .before .before .before .before .before .before .before .before .before .before .before .before .before .before .before .before .before .before .args .state) (c .before .before .before .before .before .before .before .before .before .before .before .before .before .before .before .before .before .before .before .args .scratch .now) (omega arith) (c .before .before .before .before .before .before .before .before .before .before .before .before .before .before .walk-on .ensures) (c .before .before .before .before .before .before .before .before .before .before .step .given .1) (c .before .before .unit-line .ensures) (rw (c .before .is-refused .ensures) at (c .counted .ensures))
+returns-2 c =
+    let a = c .before .before .before .before .before .before .before .before .before .before .before .before .before .before .before .before .before .before .before .before .before .before .args in
+    unit-stepped (tableOf (a .sequences .now) (a .pictures .now)) (a .recording .now) (a .state) (a .scratch .now) (omega arith) (c .before .before .before .before .before .before .before .before .before .before .before .before .before .before .before .walk-on .ensures) (c .before .before .before .before .before .before .before .before .before .before .before .step .given .1) (c .before .before .unit-line .ensures)
+    (rw (c .before .is-refused .ensures) at (c .counted .ensures))
 
 returns-3 : tie.Need-returns-3
-returns-3 c = rw (turn-by (tableOf (c .before .before .before .before .before .before .before .before .before .before .before .args .sequences .now) (c .before .before .before .before .before .before .before .before .before .before .before .args .pictures .now)) (c .before .before .before .before .before .before .before .before .before .before .before .args .recording .now) (c .before .before .before .before .before .before .before .before .before .before .before .args .state) (c .before .before .before .before .before .before .before .before .before .before .before .args .scratch .now) (omega arith) Step.End (c .before .before .before .before .before .before .walk-on .ensures .left) (sym (c .before .before .before .before .before .before .walk-on .ensures .step) ∙ c .before .before .enum-told .given .1)) (ends (c .finish .ensures) _)
+returns-3 c =
+    let a = c .before .before .before .before .before .before .before .before .before .before .before .before .before .args in
+    let w = c .before .before .before .before .before .before .walk-on .ensures in
+    rw (turn-by (tableOf (a .sequences .now) (a .pictures .now)) (a .recording .now) (a .state) (a .scratch .now) (omega arith) Step.End (w .left) (w .table) (sym (w .step) ∙ c .before .before .enum-told .given .1)) (ends (c .finish .ensures) _ _)
 
 returns-4 : tie.Need-returns-4
-returns-4 c = rw (turn-by (tableOf (c .before .before .before .before .before .before .before .before .before .before .before .args .sequences .now) (c .before .before .before .before .before .before .before .before .before .before .before .args .pictures .now)) (c .before .before .before .before .before .before .before .before .before .before .before .args .recording .now) (c .before .before .before .before .before .before .before .before .before .before .before .args .state) (c .before .before .before .before .before .before .before .before .before .before .before .args .scratch .now) (omega arith) (Step.Refused _) (c .before .before .before .before .before .before .walk-on .ensures .left) (sym (c .before .before .before .before .before .before .walk-on .ensures .step) ∙ c .before .before .enum-told2 .given .1)) (ends (c .finish2 .ensures) _)
+returns-4 c =
+    let a = c .before .before .before .before .before .before .before .before .before .before .before .before .before .args in
+    let w = c .before .before .before .before .before .before .walk-on .ensures in
+    rw (turn-by (tableOf (a .sequences .now) (a .pictures .now)) (a .recording .now) (a .state) (a .scratch .now) (omega arith) (Step.Refused _) (w .left) (w .table) (sym (w .step) ∙ c .before .before .enum-told2 .given .1)) (ends (c .finish2 .ensures) _ _)
 
 pub list-step-spec : {M : Type 1} → statement M
 list-step-spec =

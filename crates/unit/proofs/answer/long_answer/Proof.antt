@@ -14,6 +14,12 @@ returns-3 c = rw (c .before .a2 .given .1)
 returns-4 : tie.Need-returns-4
 returns-4 c = rw (c .before .a3 .given .1)
 
+returns-5 : tie.Need-returns-5
+returns-5 c = rw (c .before .a4 .given .1)
+
+returns-6 : tie.Need-returns-6
+returns-6 c = rw (c .before .a5 .given .1)
+
 pub long-answer-spec : {M : Type 1} → statement M
 long-answer-spec =
     tie.close
@@ -22,7 +28,11 @@ long-answer-spec =
     (λ c. search needs)
     (λ c. search needs)
     (λ c. search needs)
+    (λ c. search needs)
+    (λ c. search needs)
     returns
     returns-2
     returns-3
-    returns-4)
+    returns-4
+    returns-5
+    returns-6)

@@ -10,7 +10,7 @@ returns c = rw (c .kind-of .ensures, c .before .absent-extension .ensures, ← c
 
 returns-2 : tie.Need-returns-2
 unfolding typed
-returns-2 c = rw (← c .before .before .before .before .type-id .ensures, ← c .before .before .before .either .ensures, c .before .before .if1 .left, ← c .before .has-extension .ensures, not-true (c .before .has-extension .result) (c .if2 .taken))
+returns-2 c = rw (c .without-extension .ensures, ← c .before .before .before .before .before .type-id .ensures, ← c .before .before .before .before .either .ensures, c .before .before .before .if1 .left, ← c .before .before .has-extension .ensures, not-true (c .before .before .has-extension .result) (c .before .if2 .taken))
 
 returns-3 : tie.Need-returns-3
 unfolding typed
@@ -29,6 +29,7 @@ typed-spec =
     (λ c κs. search needs)
     (λ c κs. search needs)
     returns
+    (λ c κs. search needs)
     (λ c κs. search needs)
     returns-2
     (λ c κs. search needs)

@@ -12,6 +12,12 @@ slice-into-requires c κs = begun-small _ _ (sym (c .before .before .before .bef
 body-into-requires : tie.Need-body-into-requires
 body-into-requires c κs = begun-small _ _ (sym (c .before .before .before .kind2 .given .1) ∙ c .before .before .before .before .before .begin .ensures) refl
 
+sequence-into-requires : tie.Need-sequence-into-requires
+sequence-into-requires c κs = begun-small _ _ (sym (c .before .enum-told .given .1) ∙ c .before .before .before .begin .ensures) refl
+
+picture-into-requires : tie.Need-picture-into-requires
+picture-into-requires c κs = begun-small _ _ (sym (c .before .enum-told2 .given .1) ∙ c .before .before .before .begin .ensures) refl
+
 returns : tie.Need-returns
 unfolding unitRead
 returns c = rw (← c .before .before .before .before .before .before .before .before .before .before .before .before .before .before .begin .ensures, c .before .before .before .before .before .before .before .before .before .before .before .before .kind .given .1) (c .before .before .slice-into .ensures (c .before .before .before .before .before .before .before .before .before .before .before .before .before .before .before .before .before .args .base .now))
@@ -24,11 +30,19 @@ returns-2 c =
 
 returns-3 : tie.Need-returns-3
 unfolding unitRead
-returns-3 c = rw (← c .before .before .before .begin .ensures, c .before .id .given .1) (other-taken _ refl _)
+returns-3 c = rw (← c .before .before .before .before .before .before .begin .ensures, c .before .before .before .before .enum-told .given .1) (c .before .before .sequence-into .ensures _)
 
 returns-4 : tie.Need-returns-4
 unfolding unitRead
-returns-4 c = rw (← c .before .before .before .begin .ensures, c .before .r .given .1) (none-taken _ refl _ _)
+returns-4 c = rw (← c .before .before .before .before .before .before .begin .ensures, c .before .before .before .before .enum-told2 .given .1) (c .before .before .picture-into .ensures _)
+
+returns-5 : tie.Need-returns-5
+unfolding unitRead
+returns-5 c = rw (← c .before .before .before .begin .ensures, c .before .id .given .1) (other-taken _ refl _)
+
+returns-6 : tie.Need-returns-6
+unfolding unitRead
+returns-6 c = rw (← c .before .before .before .begin .ensures, c .before .r .given .1) (none-taken _ refl _ _)
 
 pub take-spec : {M : Type 1} → statement M
 take-spec =
@@ -40,10 +54,18 @@ take-spec =
     (λ c. search needs)
     body-into-requires
     (λ c. search needs)
+    sequence-into-requires
+    (λ c. search needs)
+    picture-into-requires
+    (λ c. search needs)
     (λ c. search needs)
     (λ c. search needs)
     returns
     (λ c. search needs)
     returns-2
+    (λ c. search needs)
     returns-3
-    returns-4)
+    (λ c. search needs)
+    returns-4
+    returns-5
+    returns-6)

@@ -1,0 +1,4 @@
+pub mod SequenceSet
+pub mod PictureSet
+pub mod SequenceSteps
+pub mod PictureSteps
