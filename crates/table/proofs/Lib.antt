@@ -11,6 +11,7 @@ pub mod Walking
 pub mod Fields
 pub mod Values
 pub mod LookShell
+pub mod PairShell
 pub mod BothShell
 pub mod BesideShell
 pub mod WithShell
