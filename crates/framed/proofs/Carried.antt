@@ -1,0 +1,56 @@
+-- Which units are carried: what `is_carried` cites.
+use mathlib.Core.Path.{_≡_, refl}
+use mathlib.Core.List.{List, [], _∷_}
+use mathlib.Core.Bool.{true, false, _&&_, and-false}
+use Prim.Native.Nat.{ℕ, _+_, _-_, _≤_, _<_}
+use native.Mathlib.Omega.{arith}
+use native.Mathlib.Nat.{sub-zero}
+use lib.Dec.{eqb, leb}
+use borrow.Author.Tests.{eq-eqb, ne-eqb, le-leb, lt-leb}
+use native.Mathlib.Decide.{decLt}
+use lib.ListN.{length, getD, take, drop, length-take}
+use lib.Seq.{take-length}
+use Rattle.walk.specs.Walk.{upto, kept}
+use Rattle.walk.proofs.Hits.{upto-le}
+use Rattle.walk.proofs.Trims.{kept-le, trim-on, trim-stop}
+use Rattle.walk.specs.Units.{Span}
+use Rattle.framed.specs.declared.carry.Uncarried.{Uncarried}
+use Rattle.framed.specs.Convert.{carried, firstUncarried}
+
+module _ (u : List ℕ) (more : 0 < length u) where
+  -- a last byte that is zero
+  pub zero-last : getD u (length u - 1) 0 ≡ 0 → false ≡ carried u
+  zero-last z =
+      let t : kept (take (length u - 0) u) ≡ kept (take (length u - 1 - 0) u) = trim-on u 0 (length u) more (omega arith) z in
+      let k : kept (take (length u - 1 - 0) u) ≤ length (take (length u - 1 - 0) u) = kept-le (take (length u - 1 - 0) u) in
+      let m : length (take (length u - 1 - 0) u) ≤ length u - 1 = rw length-take (omega arith) in
+      let w : kept u ≡ kept (take (length u - 0) u) = rw (sub-zero, take-length) in
+      let n : kept u ≡ length u → ⊥ = λ q. omega arith in
+      rw (ne-eqb (kept u) (length u) n) (simp and-false)
+
+  -- another one: then it goes by whether a mark stands in it
+  pub other-last : (r : ℕ) → (getD u (length u - 1) 0 ≡ 0 → ⊥) → r ≡ 0 + upto 0 u → leb (length u) r ≡ carried u
+  other-last r z e =
+      let t : kept (take (length u - 0) u) ≡ length u - 0 = trim-stop u 0 (length u) more (omega arith) z in
+      let w : kept u ≡ kept (take (length u - 0) u) = rw (sub-zero, take-length) in
+      let k : kept u ≡ length u = omega arith in
+      rw (eq-eqb (kept u) (length u) k) (go (decLt (upto 0 u) (length u)))
+    where
+      go : Dec (upto 0 u < length u) → leb (length u) r ≡ (eqb (upto 0 u) (length u) && true)
+      go (yes h) = let n : upto 0 u ≡ length u → ⊥ = λ q. omega arith in rw (lt-leb (length u) r (omega arith), ne-eqb (upto 0 u) (length u) n)
+      go (no h) = let m : upto 0 u ≡ length u = omega (arith, upto-le 0 u) in rw (le-leb (length u) r (omega arith), eq-eqb (upto 0 u) (length u) m)
+
+pub empty : (u : List ℕ) → length u ≡ 0 → true ≡ carried u
+empty [] h = refl
+empty (a ∷ r) h = absurd (omega arith)
+
+-- the first of the units: it is lent as s[p .. m]
+module _ (p l m : ℕ) (s : List ℕ) (us : List Span) (inside : p + l ≡ m) where
+  part : m - p ≡ l
+  part = omega arith
+
+  pub is-on : carried (take (m - p) (drop p s)) ≡ true → firstUncarried (record { place = p; size = l; next = m; read = take l (drop p s) } ∷ us) ≡ firstUncarried us
+  is-on e = let f : carried (take l (drop p s)) ≡ true = rw part at e in rw f
+
+  pub is-first : carried (take (m - p) (drop p s)) ≡ false → firstUncarried (record { place = p; size = l; next = m; read = take l (drop p s) } ∷ us) ≡ Uncarried.At p
+  is-first e = let f : carried (take l (drop p s)) ≡ false = rw part at e in rw f

@@ -1,0 +1,13 @@
+pub mod Frames
+pub mod Steps
+pub mod Carried
+pub mod Fills
+pub mod Joins
+pub mod Marks
+pub mod Never
+pub mod Cases
+pub mod Lengths
+pub mod There
+pub mod Alike
+pub mod Damage
+pub mod Examples
