@@ -3,6 +3,7 @@ pub mod Combinators
 pub mod Lists
 pub mod Leaves
 pub mod Any
+pub mod Ahead
 pub mod Turns
 pub mod Loops
 pub mod Along

@@ -10,3 +10,4 @@ pub mod Before
 pub mod Sizes
 pub mod ListSizes
 pub mod HeaderSize
+pub mod Ahead
