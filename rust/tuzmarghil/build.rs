@@ -5,7 +5,7 @@ use std::{env, fs};
 
 /// The crate that exports, and the files whose `#[repr(C)]` structs cross the boundary, or are made of the words that do (`Prefix` stands among them and is neither).
 const EXPORTS: &str = "exports";
-const RECORDS: [&str; 15] = [
+const RECORDS: [&str; 20] = [
     "table/src/sets.rt",
     "table/src/table.rt",
     "syntax/src/marks.rt",
@@ -21,6 +21,11 @@ const RECORDS: [&str; 15] = [
     "writer/src/given.rt",
     "exports/src/writes.rt",
     "exports/src/starts.rt",
+    "exposures/src/slice.rt",
+    "exposures/src/exposure.rt",
+    "exposures/src/counts.rt",
+    "exposures/src/take.rt",
+    "exports/src/takes.rt",
 ];
 
 /// The file that lays a header's fields down as words, the one that has the number of the boundary's layout, and the one that says how many bytes are enough for every

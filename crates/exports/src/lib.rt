@@ -8,5 +8,6 @@ pub mod units; // its body
 pub mod walks; // the walk over a recording
 pub mod listings; // the lines of a listing
 pub mod quants; // QP and QS
+pub mod takes; // taking units for exposures
 pub mod writes; // writing a header
 pub mod bounds; // how large a header gets

@@ -18,7 +18,7 @@ ghost use Rattle.exports.specs.Listings.{heard};
 ghost use Rattle.exports.specs.Heads.{headHeard};
 
 // What a ReadOut's numbers tell, as far as a line speaks of it.
-fn hear(answer: u32, number: u8, value: i64, has_bit: bool, bit: usize) -> ShortAnswer
+pub(crate) fn hear(answer: u32, number: u8, value: i64, has_bit: bool, bit: usize) -> ShortAnswer
     ensures { λ r. ⌜ r ≡ heard answer number value «has_bit» bit ⌝ }
 {
     if answer == 0 {

@@ -1,8 +1,10 @@
 //! `tuz`: slice headers of H.264 recordings.
 
 mod answer;
+mod band;
 mod cases;
 mod explain;
+mod exposures;
 mod form;
 mod input;
 mod kinds;
@@ -38,6 +40,7 @@ Examples:
   tuz list night.264                             each unit with its place, length, type, frame and QP
   tuz headers night.264 --format csv > night.csv
   tuz qp night.264 --plot night.svg
+  tuz exposures night.264 --format csv > exposures.csv
   tuz tear night.264 -o torn.264 --at 70000 --length 512
   ffmpeg -i in.mp4 -c copy -bsf:v h264_mp4toannexb -f h264 - | tuz list -
   tuz table night.264 > camera.txt; tuz list rest-of-the-night.264 --table camera.txt
@@ -92,6 +95,18 @@ enum What {
         #[arg(long, value_name = "FILE")]
         csv: Option<PathBuf>,
         /// QP over the recording as SVG; refused units stand out in red; `-` is standard output
+        #[arg(long, value_name = "FILE.svg")]
+        plot: Option<PathBuf>,
+        #[command(flatten)]
+        ending: Ending,
+    },
+    /// A line for each exposure, that is each picture: place, slices, QP, frame_num, missing frames and refused units before it; and a plot
+    Exposures {
+        #[command(flatten)]
+        clip: Clip,
+        #[command(flatten)]
+        form: Form,
+        /// QP by exposure as SVG, with a band from least to greatest; missing frames and refused units stand out; `-` is standard output
         #[arg(long, value_name = "FILE.svg")]
         plot: Option<PathBuf>,
         #[command(flatten)]
@@ -192,6 +207,12 @@ fn run(args: &Args, out: &mut Stdout) -> Result<u8> {
             let asked = asked(Kind::Qp, clip, form, ending);
             units::run(&Asked { csv, plot, ..asked }, out)
         }
+        What::Exposures {
+            clip,
+            form,
+            plot,
+            ending,
+        } => exposures::run(clip, form.format, plot.as_deref(), ending, out),
         What::Table { clip, ending } => sets::run(&Clip::from(clip), ending, out),
         What::Tear(tear) => tear::run(tear, out).map(|()| 0),
         What::Cases { file, rewrite } => cases_of(file, *rewrite, out).map(|()| 0),

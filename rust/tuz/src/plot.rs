@@ -6,12 +6,12 @@ use std::fmt::Write;
 
 const WIDTH: f64 = 1200.0;
 const HEIGHT: f64 = 440.0;
-const LEFT: f64 = 62.0;
-const RIGHT: f64 = 1150.0;
-const TOP: f64 = 66.0;
-const BOTTOM: f64 = 372.0;
+pub const LEFT: f64 = 62.0;
+pub const RIGHT: f64 = 1150.0;
+pub const TOP: f64 = 66.0;
+pub const BOTTOM: f64 = 372.0;
 const COLOURS: [&str; 5] = ["#1F77B4", "#2C8C2C", "#E67800", "#8C564B", "#9467BD"];
-const TORN: &str = "#D60000";
+pub const TORN: &str = "#D60000";
 
 /// No more columns are kept than this, however many slices there are.
 const COLUMNS: usize = 2048;
@@ -102,14 +102,9 @@ impl Course {
     /// The picture.
     pub fn svg(&self, name: &str) -> String {
         let (low, high) = self.range();
-        let mut svg = Svg {
-            text: String::new(),
-            low,
-            high,
-            count: self.count.max(1),
-        };
-        svg.begin(name);
-        svg.qp_axis();
+        let mut svg = Svg::new(low, high, self.count);
+        svg.begin("QP over", name);
+        svg.qp_axis("slice QP");
         self.place_axis(&mut svg);
         // those that are many lie below those that are few
         let mut order: Vec<usize> = (0..5).collect();
@@ -197,20 +192,7 @@ impl Course {
     /// How many there are of each type, and what was refused.
     fn legend(&self, svg: &mut Svg) {
         let mut x = LEFT;
-        let mut entry = |colour: &str, words: &str| {
-            let (text, y) = (&mut svg.text, 42.0);
-            let _ = writeln!(
-                text,
-                r#"<rect x="{x:.0}" y="{:.0}" width="12" height="12" fill="{colour}"/>"#,
-                y - 11.0
-            );
-            let _ = writeln!(
-                text,
-                r#"<text x="{:.0}" y="{y:.0}">{words}</text>"#,
-                x + 18.0
-            );
-            x += 44.0 + 8.0 * words.len() as f64;
-        };
+        let mut entry = |colour: &str, words: &str| svg.entry(&mut x, colour, words);
         for (family, name) in FAMILIES.iter().enumerate() {
             if self.of_family(family).next().is_some() {
                 entry(COLOURS[family], name);
@@ -236,62 +218,101 @@ impl Course {
         let first = (self.count > 0).then_some(0);
         for i in first.into_iter().chain(ticks.filter(|i| *i > 0)) {
             let column = &self.columns[(i / self.step) as usize];
-            let (x, n) = (svg.x(i), i + 1);
-            let _ = writeln!(
-                svg.text,
-                r##"<path d="M{x:.1} {TOP}V{:.0}" stroke="#E2E2E2" fill="none"/>"##,
-                BOTTOM + 5.0
-            );
-            for (words, y) in [(n.to_string(), 20.0), (grouped(column.place), 38.0)] {
-                let y = BOTTOM + y;
-                let _ = writeln!(
-                    svg.text,
-                    r#"<text x="{x:.1}" y="{y:.0}" text-anchor="middle">{words}</text>"#
-                );
-            }
+            svg.tick(i, &(i + 1).to_string(), &grouped(column.place));
         }
-        let (x, y) = ((LEFT + RIGHT) / 2.0, BOTTOM + 58.0);
-        let words = match self.count {
+        svg.below(match self.count {
             0 => "no slice and no refused unit",
             _ => "slices and refused units in their order, and the place of each in bytes",
-        };
-        let _ = writeln!(
-            svg.text,
-            r#"<text x="{x:.0}" y="{y:.0}" text-anchor="middle">{words}</text>"#
-        );
+        });
     }
 }
 
 /// A picture that has begun, with its scales.
-struct Svg {
-    text: String,
+pub struct Svg {
+    pub text: String,
     low: i64,
     high: i64,
     count: u64,
 }
 
 impl Svg {
-    fn x(&self, i: u64) -> f64 {
+    /// From one QP to another, with so many things side by side.
+    pub fn new(low: i64, high: i64, count: u64) -> Svg {
+        Svg {
+            text: String::new(),
+            low,
+            high,
+            count: count.max(1),
+        }
+    }
+
+    pub fn x(&self, i: u64) -> f64 {
         LEFT + (RIGHT - LEFT) * (i as f64 + 0.5) / self.count as f64
     }
 
     fn y(&self, qp: i64) -> f64 {
-        let part = (qp - self.low) as f64 / (self.high - self.low) as f64;
+        self.at(qp as f64)
+    }
+
+    pub fn at(&self, qp: f64) -> f64 {
+        let part = (qp - self.low as f64) / (self.high - self.low) as f64;
         BOTTOM - (BOTTOM - TOP) * part
     }
 
-    fn begin(&mut self, name: &str) {
+    /// An entry of the legend, which ends where the next begins.
+    pub fn entry(&mut self, x: &mut f64, colour: &str, words: &str) {
+        let (at, y) = (*x, 42.0);
+        let _ = writeln!(
+            self.text,
+            r#"<rect x="{at:.0}" y="{:.0}" width="12" height="12" fill="{colour}"/>"#,
+            y - 11.0
+        );
+        let _ = writeln!(
+            self.text,
+            r#"<text x="{:.0}" y="{y:.0}">{words}</text>"#,
+            at + 18.0
+        );
+        *x += 44.0 + 8.0 * words.len() as f64;
+    }
+
+    /// A line upwards, with two lines of words below it.
+    pub fn tick(&mut self, i: u64, number: &str, place: &str) {
+        let x = self.x(i);
+        let _ = writeln!(
+            self.text,
+            r##"<path d="M{x:.1} {TOP}V{:.0}" stroke="#E2E2E2" fill="none"/>"##,
+            BOTTOM + 5.0
+        );
+        for (words, y) in [(number, 20.0), (place, 38.0)] {
+            let y = BOTTOM + y;
+            let _ = writeln!(
+                self.text,
+                r#"<text x="{x:.1}" y="{y:.0}" text-anchor="middle">{words}</text>"#
+            );
+        }
+    }
+
+    /// What the things side by side are.
+    pub fn below(&mut self, words: &str) {
+        let (x, y) = ((LEFT + RIGHT) / 2.0, BOTTOM + 58.0);
+        let _ = writeln!(
+            self.text,
+            r#"<text x="{x:.0}" y="{y:.0}" text-anchor="middle">{words}</text>"#
+        );
+    }
+
+    pub fn begin(&mut self, what: &str, name: &str) {
         let (w, h) = (WIDTH, HEIGHT);
         let _ = writeln!(
             self.text,
             r##"<svg xmlns="http://www.w3.org/2000/svg" width="{w}" height="{h}" viewBox="0 0 {w} {h}" font-family="sans-serif" font-size="14" fill="#222222">
 <rect width="{w}" height="{h}" fill="#FFFFFF"/>
-<text x="{LEFT}" y="22" font-size="18">QP over {}</text>"##,
+<text x="{LEFT}" y="22" font-size="18">{what} {}</text>"##,
             escaped(&shown::text(name))
         );
     }
 
-    fn qp_axis(&mut self) {
+    pub fn qp_axis(&mut self, words: &str) {
         let step = nice((self.high - self.low) as f64 / 8.0).max(1) as i64;
         let first = self.low.div_euclid(step) * step;
         let ticks = (0..).map(|k| first + k * step);
@@ -310,13 +331,13 @@ impl Svg {
         let _ = writeln!(
             self.text,
             r##"<path d="M{LEFT} {TOP}V{BOTTOM}H{RIGHT}" stroke="#888888" fill="none"/>
-<text x="18" y="{y:.0}" text-anchor="middle" transform="rotate(-90 18 {y:.0})">slice QP</text>"##
+<text x="18" y="{y:.0}" text-anchor="middle" transform="rotate(-90 18 {y:.0})">{words}</text>"##
         );
     }
 }
 
 /// 1, 2 or 5 and zeros: not less than asked for.
-fn nice(least: f64) -> u64 {
+pub fn nice(least: f64) -> u64 {
     let mut ten = 1u64;
     loop {
         for k in [1, 2, 5] {
@@ -329,7 +350,7 @@ fn nice(least: f64) -> u64 {
 }
 
 /// 1234567 as 1,234,567.
-fn grouped(n: u64) -> String {
+pub fn grouped(n: u64) -> String {
     let digits = n.to_string();
     let mut told = String::new();
     for (i, digit) in digits.chars().enumerate() {

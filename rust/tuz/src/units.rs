@@ -103,7 +103,9 @@ impl Units<'_> {
         let (read, words) = r.raw();
         self.totals.take(r);
         self.sets.take(r);
-        self.tell_missing(r.place, read);
+        if read.answer == 3 {
+            tell_missing(&self.asked.clip.name(), &self.totals, r.place, read);
+        }
         let slice = (read.answer == 1).then(|| Slice::of(r.table(), words));
         if self.asked.kind == Kind::Qp {
             if read.answer != 1 && read.answer != 3 {
@@ -205,15 +207,6 @@ impl Units<'_> {
         Ok(())
     }
 
-    /// Says once that a slice lacks its sets, where none was read before it.
-    fn tell_missing(&self, place: u64, read: &ReadOut) {
-        let first = self.totals.first_is_missing() && read.answer == 3;
-        if first && matches!(read.number, 9 | 10) {
-            let (name, why) = (self.asked.clip.name(), read.refusal().reason());
-            eprintln!("tuz: {name}: place {place}: {why}: it has not come so far; `--table FILE` gives sets to start with (`tuz help cases`)");
-        }
-    }
-
     /// All units were told: the last lines, the files, the totals.
     fn end(mut self, bytes: u64) -> Result<u8> {
         self.begin()?;
@@ -248,6 +241,15 @@ impl Units<'_> {
             eprintln!("{name}: {}", self.totals.told(bytes));
         }
         Ok(u8::from(ending.strict && self.totals.refused > 0))
+    }
+}
+
+/// Says once that a slice lacks its sets, where none was read before it.
+pub fn tell_missing(name: &str, totals: &Totals, place: u64, read: &ReadOut) {
+    let first = totals.first_is_missing() && read.answer == 3;
+    if first && matches!(read.number, 9 | 10) {
+        let why = read.refusal().reason();
+        eprintln!("tuz: {name}: place {place}: {why}: it has not come so far; `--table FILE` gives sets to start with (`tuz help cases`)");
     }
 }
 

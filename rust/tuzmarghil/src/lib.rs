@@ -37,6 +37,7 @@
 #![warn(missing_docs)]
 
 mod container;
+mod exposures;
 mod nal;
 mod prefix;
 #[doc(hidden)]
@@ -56,6 +57,7 @@ mod words;
 mod write;
 
 pub use container::{container, container_needs, CONTAINER_LOOK};
+pub use exposures::{exposures, Exposure, ExposureTotals, Exposures, Stacker, StreamExposures};
 pub use nal::{
     NalHeader, NalHeaderExtension, NalHeaderMvcExtension, NalHeaderSvcExtension, UnitType,
     UnitTypeError,

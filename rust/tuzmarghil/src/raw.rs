@@ -78,6 +78,20 @@ extern "C" {
         w1: *mut WeightWords,
         base: *mut ListWords,
     );
+    fn tuz_exposures_start(out: *mut State);
+    fn tuz_take(
+        out: *mut TakenOut,
+        state: State,
+        sequences: *const [u32; 224],
+        pictures: *const [u32; 2304],
+        place: usize,
+        nal_unit_type: u8,
+        nal_ref_idc: u8,
+        answer: u32,
+        numbers: *const NumberWords,
+        signed: *const SignedWords,
+    );
+    fn tuz_finish(out: *mut ClosedOut, state: State);
     fn tuz_header_bound(pictures: *const [u32; 2304], numbers: *const NumberWords) -> usize;
     fn tuz_write_header(
         out: *mut WroteOut,
@@ -122,7 +136,7 @@ macro_rules! plain {
     )* };
 }
 
-plain!(Table Sequence Picture SequenceOut PictureOut HeaderShort HeadOut UnitHead ReadOut StepOut WalkOut WroteOut ExtensionOut);
+plain!(Table Sequence Picture SequenceOut PictureOut HeaderShort HeadOut UnitHead ReadOut StepOut WalkOut WroteOut ExtensionOut State TakenOut ClosedOut);
 
 impl ReadOut {
     /// What tells of a refusal.
@@ -160,6 +174,51 @@ impl ReadOut {
             ..Refusal::new(self.number, self.value)
         }
     }
+}
+
+/// The state before the first unit, for [`take`].
+pub fn exposures_start() -> State {
+    asked();
+    let mut out = State::default();
+    // SAFETY: the result lives through the call, which requires nothing.
+    unsafe { tuz_exposures_start(&mut out) };
+    out
+}
+
+/// Takes a unit, by the table in force, its place, its first byte and what reading it gave: the state after it, and the exposure that it closes.
+pub fn take(
+    state: State,
+    table: &Table,
+    place: usize,
+    first: u8,
+    out: &ReadOut,
+    words: &Words,
+) -> TakenOut {
+    asked();
+    let mut taken = TakenOut::default();
+    let (q, p, n, s) = (
+        &table.sequences,
+        &table.pictures,
+        &words.numbers,
+        &words.signed,
+    );
+    let (kind, reference, answer) = (first & 31, first >> 5 & 3, out.answer);
+    // SAFETY: the result and the arrays live through the call, which requires nothing.
+    unsafe {
+        tuz_take(
+            &mut taken, state, q, p, place, kind, reference, answer, n, s,
+        )
+    };
+    taken
+}
+
+/// The last exposure.
+pub fn finish(state: State) -> ClosedOut {
+    asked();
+    let mut out = ClosedOut::default();
+    // SAFETY: the result lives through the call, which requires nothing.
+    unsafe { tuz_finish(&mut out, state) };
+    out
 }
 
 /// A line of a listing.

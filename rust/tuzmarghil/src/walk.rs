@@ -1,6 +1,6 @@
 //! The units of a recording.
 
-use crate::raw::{self, WalkOut, Words};
+use crate::raw::{self, ReadOut, WalkOut, Words};
 use crate::{Reading, Refusal, Table, Unit, LIMIT};
 
 /// A unit of a recording.
@@ -60,12 +60,9 @@ impl Reports<'_> {
     pub fn table(&self) -> &Table {
         self.table
     }
-}
 
-impl Iterator for Reports<'_> {
-    type Item = Report;
-
-    fn next(&mut self) -> Option<Report> {
+    /// The next unit as the proved library tells it: the table in force, its place, its bytes, the answer and the words.
+    pub(crate) fn step(&mut self) -> Option<(&Table, usize, &[u8], &ReadOut, &Words)> {
         let out = &mut self.out;
         raw::walk(
             self.table.as_raw_mut(),
@@ -80,10 +77,21 @@ impl Iterator for Reports<'_> {
         }
         self.from = out.next;
         let bytes = &self.recording[out.place..][..out.length];
+        Some((self.table, out.place, bytes, &out.read, &self.words))
+    }
+}
+
+impl Iterator for Reports<'_> {
+    type Item = Report;
+
+    fn next(&mut self) -> Option<Report> {
+        self.step()?;
+        let (table, out) = (&*self.table, &self.out);
+        let bytes = &self.recording[out.place..][..out.length];
         Some(Report {
             place: out.place,
             length: out.length,
-            unit: Reading::new(self.table, bytes, &out.read, &self.words, &self.scratch).unit(),
+            unit: Reading::new(table, bytes, &out.read, &self.words, &self.scratch).unit(),
         })
     }
 }

@@ -1,0 +1,18 @@
+use borrow.Author.Needs.{needs}
+use Rattle.exports.specs.Takes.{takenOut}
+use Rattle.exports.proofs.takes.tuz_take.Statement.{statement}
+use Rattle.exports.proofs.takes.tuz_take.Tie as tie
+
+returns : tie.Need-returns
+unfolding takenOut
+returns c = rw (c .closed-out .ensures, c .before .before .take .ensures, c .before .before .before .item-of .ensures, c .before .before .before .before .hear .ensures)
+
+pub tuz-take-spec : {M : Type 1} → statement M
+tuz-take-spec =
+    tie.close
+    (tie.spec
+    (λ c κs. search needs)
+    (λ c κs. search needs)
+    (λ c κs. search needs)
+    (λ c κs. search needs)
+    returns)

@@ -1,0 +1,9 @@
+pub mod Sums
+pub mod Lists
+pub mod Runs
+pub mod Grouped
+pub mod Levels
+pub mod Counted
+pub mod Came
+pub mod Torn
+pub mod Moved
