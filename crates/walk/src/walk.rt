@@ -90,7 +90,7 @@ fn in_turn<'a>(
     }
 }
 
-// A set that was read goes into the table. It is within the rules' sizes, so no put of one is refused (`fits` in proofs/Kept.antt).
+// A set that was read goes into the table. It is within the rules' sizes, so no put of one is refused (`sets-sequence-put` and `sets-picture-put` of promises).
 fn keep_set(sequences: &mut [u32; 224], pictures: &mut [u32; 2304], answer: ShortAnswer)
     ensures { λ _. ⌜ tableOf (now (sequences .exit)) (now (pictures .exit)) ≡ tableAfter (tableOf (now (sequences .entry)) (now (pictures .entry))) (longAnswer answer) ⌝ }
 {
