@@ -16,3 +16,4 @@ pub mod SeCodes
 pub mod Writes
 pub mod Widths
 pub mod RoundTrips
+pub mod Copies

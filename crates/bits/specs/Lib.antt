@@ -5,3 +5,4 @@ pub mod Answers
 pub mod Put
 pub mod Width
 pub mod Windows
+pub mod Copy

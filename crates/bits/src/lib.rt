@@ -5,3 +5,4 @@ pub mod put; // writes at a cursor
 pub mod width; // how wide slice_group_change_cycle is
 pub mod window; // the bytes whose bits have a place, and 64 bits of a slice at once
 mod fill; // bits into a slice, a byte at a time
+pub mod copy; // bytes into a slice

@@ -59,7 +59,11 @@ pub const TOO_LARGE: u8 = 27;
 
 pub const SET_FIELD: u8 = 28;
 
+pub const BROKEN_LENGTH: u8 = 29;
+
 pub const NOT_ITS_HEAD: u8 = 34;
+
+pub const NOT_CARRIED: u8 = 35;
 
 // The size limit of a unit or a recording, in bytes.
 pub const LIMIT: usize = 268_435_456;

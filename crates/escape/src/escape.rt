@@ -1,4 +1,5 @@
 // A unit's body, from a place of the unit on, with its emulation prevention bytes dropped (H.264, 7.3.1).
+use bits::copy::copy_in;
 use bits::refusals::BUFFER_TOO_SHORT;
 use bits::refusals::LIMIT;
 use bits::refusals::Refusal;
@@ -9,7 +10,6 @@ ghost use mathlib.Core.Path.{_≡_};
 ghost use mathlib.Core.List.{_++_};
 ghost use Prim.Native.Nat.{_+_, _≤_};
 ghost use lib.ListN.{length, drop};
-ghost use lib.Seq.{paste};
 ghost use Rattle.escape.specs.Body.{body, unescaped};
 
 // What unescaping answers.
@@ -57,18 +57,4 @@ fn copy_kept(unit: &[u8], from: usize, scratch: &mut [u8]) -> usize
         o = copy_in(&unit[i..stop], scratch, o);
         i = e + 3;
     }
-}
-
-// Copies all of `src` into `dst` from `at` on; the place after it.
-fn copy_in(src: &[u8], dst: &mut [u8], at: usize) -> usize
-    requires { ⌜ at + length (now src) ≤ length (now dst) ⌝ }
-    ensures { λ r. ⌜ r ≡ at + length (now (src .entry)) ⌝ }
-    ensures { λ _. ⌜ now (dst .exit) ≡ paste (now (dst .entry)) at (now (src .entry)) (length (now (src .entry))) ⌝ }
-{
-    let mut j: usize = 0;
-    while j < src.len() {
-        dst[at + j] = src[j];
-        j += 1;
-    }
-    at + j
 }

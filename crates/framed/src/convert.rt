@@ -2,12 +2,13 @@
 use crate::carry::Uncarried;
 use crate::carry::first_uncarried;
 use crate::put::put_unit;
-use crate::step::BROKEN_LENGTH;
 use crate::step::FramedStep;
 use crate::step::next_framed;
 use crate::step::units_end;
+use bits::refusals::BROKEN_LENGTH;
 use bits::refusals::BUFFER_TOO_SHORT;
 use bits::refusals::LIMIT;
+use bits::refusals::NOT_CARRIED;
 use bits::refusals::Refusal;
 use bits::refusals::TOO_LARGE;
 use bits::refusals::refuse;
@@ -21,8 +22,6 @@ ghost use Rattle.escape.specs.Body.{startWith};
 ghost use Rattle.walk.specs.Units.{units};
 ghost use Rattle.framed.specs.Framed.{framedUnits};
 ghost use Rattle.framed.specs.Convert.{startCode, lengthBytes, joined, bytesOf, toStartCodes, toLengths};
-
-pub const NOT_CARRIED: u8 = 35;
 
 // How many bytes the result has, or why there is none.
 pub enum Converted {

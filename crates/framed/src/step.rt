@@ -1,4 +1,5 @@
 // The walk over a recording framed by length: each unit stands behind its length, four bytes, the first the highest.
+use bits::refusals::BROKEN_LENGTH;
 use bits::refusals::LIMIT;
 use bits::refusals::Refusal;
 use bits::refusals::TOO_LARGE;
@@ -8,8 +9,6 @@ ghost use Prim.Native.Nat.{_+_, _<_, _≤_};
 ghost use Rattle.bits.specs.Refusals.{limit};
 ghost use lib.ListN.{length, getD};
 ghost use Rattle.framed.specs.Framed.{four, framedUnits, endOf, nextFramed};
-
-pub const BROKEN_LENGTH: u8 = 29;
 
 // What a step came to: a unit's place, its length and the place to go on from; the end; or refusal 27 or 29.
 pub enum FramedStep {

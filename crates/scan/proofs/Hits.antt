@@ -7,7 +7,7 @@ use native.Mathlib.Omega.{arith}
 use native.Mathlib.Numerals.{add-one}
 use lib.Dec.{eqb, leb}
 use borrow.Author.Tests.{le-leb, lt-leb, eq-eqb, ne-eqb}
-use lib.ListN.{length, getD, drop}
+use lib.ListN.{length, getD, drop, length-drop}
 use lib.Seq.{drop-cons}
 use Rattle.bits.specs.Refusals.{pick}
 use Rattle.scan.specs.Scan.{hit, upto}
@@ -37,6 +37,16 @@ module _ (k m : ℕ) (s : List ℕ) (i : ℕ) (h : i + 2 < length s) where
 
   pub hit-yes : getD s i 0 ≡ 0 → getD s (i + 1) 0 ≡ 0 → k ≤ getD s (i + 2) 0 → hit k m (drop i s) ≡ leb (getD s (i + 2) 0) m
   hit-yes a b n = rw (hit-drop k m s i h, eq-eqb (getD s i 0) 0 a, eq-eqb (getD s (i + 1) 0) 0 b, le-leb k (getD s (i + 2) 0) n)
+
+-- fewer than three bytes are left
+pub hit-short : (k m : ℕ) (s : List ℕ) (i : ℕ) → length s < i + 3 → hit k m (drop i s) ≡ false
+hit-short k m s i h = go (drop i s) (simp length-drop (omega arith))
+  where
+    go : (l : List ℕ) → length l < 3 → hit k m l ≡ false
+    go [] g = refl
+    go (a ∷ []) g = refl
+    go (a ∷ b ∷ []) g = refl
+    go (a ∷ b ∷ c ∷ r) g = absurd (omega arith)
 
 -- a byte that is not zero is neither of the first two
 pub hit-first : (k m a : ℕ) (r : List ℕ) → (a ≡ 0 → ⊥) → hit k m (a ∷ r) ≡ false

@@ -1,15 +1,20 @@
 // The search for 00 00 and a byte within bounds.
 use crate::blocks::pass_over;
 ghost use mathlib.Core.Path.{_≡_};
-ghost use Prim.Native.Nat.{_+_, _<_, _≤_};
+ghost use Prim.Native.Nat.{_+_, _≤_};
 ghost use lib.ListN.{length, drop};
 ghost use Rattle.scan.specs.Scan.{hit, upto};
 
 // Whether 00 00 and a byte from `low` to `high` stand at `i`.
-fn hit_at(s: &[u8], i: usize, low: u8, high: u8) -> bool
-    requires { ⌜ i + 2 < length (now s) ⌝ }
+pub fn hit_at(s: &[u8], i: usize, low: u8, high: u8) -> bool
     ensures { λ r. ⌜ r ≡ hit low high (drop i (now (s .entry))) ⌝ }
 {
+    if s.len() < 3 {
+        return false;
+    }
+    if s.len() - 3 < i {
+        return false;
+    }
     if s[i] != 0 {
         return false;
     }

@@ -14,30 +14,6 @@ use Rattle.walk.specs.Walk.{hit, upto}
 
 -- ---- at a place
 
--- the three bytes that `hit` looks at
-hit-drop : (k : ℕ) (s : List ℕ) (i : ℕ) → i + 2 < length s
-    → hit k (drop i s) ≡ (eqb (getD s i 0) 0 && (eqb (getD s (i + 1) 0) 0 && (leb k (getD s (i + 2) 0) && leb (getD s (i + 2) 0) 1)))
-hit-drop k s i h =
-    let h0 : i < length s = omega arith in
-    let h1 : suc i < length s = omega arith in
-    let h2 : suc (suc i) < length s = omega arith in
-    let e1 : i + 1 ≡ suc i = omega arith in
-    let e2 : i + 2 ≡ suc (suc i) = omega arith in
-    rw (e1, e2, drop-cons s i 0 h0, drop-cons s (suc i) 0 h1, drop-cons s (suc (suc i)) 0 h2)
-
-module _ (k : ℕ) (s : List ℕ) (i : ℕ) (h : i + 2 < length s) where
-  pub hit-no-1 : (getD s i 0 ≡ 0 → ⊥) → hit k (drop i s) ≡ false
-  hit-no-1 n = rw (hit-drop k s i h, ne-eqb _ _ n)
-
-  pub hit-no-2 : (getD s (i + 1) 0 ≡ 0 → ⊥) → hit k (drop i s) ≡ false
-  hit-no-2 n = rw (hit-drop k s i h, ne-eqb (getD s (i + 1) 0) 0 n) (simp and-false)
-
-  pub hit-no-3 : getD s (i + 2) 0 < k → hit k (drop i s) ≡ false
-  hit-no-3 n = rw (hit-drop k s i h, lt-leb k (getD s (i + 2) 0) n) (simp and-false)
-
-  pub hit-yes : getD s i 0 ≡ 0 → getD s (i + 1) 0 ≡ 0 → k ≤ getD s (i + 2) 0 → hit k (drop i s) ≡ leb (getD s (i + 2) 0) 1
-  hit-yes a b n = rw (hit-drop k s i h, eq-eqb (getD s i 0) 0 a, eq-eqb (getD s (i + 1) 0) 0 b, le-leb k (getD s (i + 2) 0) n)
-
 -- a byte that is not zero is neither of the first two
 pub hit-first : (k a : ℕ) (r : List ℕ) → (a ≡ 0 → ⊥) → hit k (a ∷ r) ≡ false
 hit-first k a [] n = refl

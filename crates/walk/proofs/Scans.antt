@@ -8,7 +8,7 @@ use Rattle.bits.specs.Refusals.{pick}
 use Rattle.scan.specs.Scan as scan
 use Rattle.walk.specs.Walk.{hit, upto}
 
-same-hit : (k : ℕ) (l : List ℕ) → scan.hit k 1 l ≡ hit k l
+pub same-hit : (k : ℕ) (l : List ℕ) → scan.hit k 1 l ≡ hit k l
 same-hit k [] = refl
 same-hit k (a ∷ []) = refl
 same-hit k (a ∷ b ∷ []) = refl

@@ -1,9 +1,10 @@
 // Where a recording's units are. The start code is the fixed three bytes 00 00 01; a unit's end mark is 00 00 00 or 00 00 01.
+use scan::scan::hit_at;
 use scan::scan::seek;
 ghost use mathlib.Core.Path.{_≡_};
-ghost use Prim.Native.Nat.{_+_, _<_, _≤_};
+ghost use Prim.Native.Nat.{_+_, _≤_};
 ghost use lib.ListN.{length, drop};
-ghost use Rattle.walk.specs.Walk.{hit, upto, kept, nextUnit};
+ghost use Rattle.walk.specs.Walk.{upto, kept, nextUnit};
 
 // What a search finds: a unit's first byte, its length and the place to go on from; or no unit.
 pub enum Found {
@@ -15,24 +16,6 @@ pub enum Found {
     End,
 }
 
-// Whether 00 00 and a byte from `least` to 1 stand at `i`: with 1 the start code, with 0 an end mark.
-fn hit_at(s: &[u8], i: usize, least: u8) -> bool
-    requires { ⌜ i + 2 < length (now s) ⌝ }
-    ensures { λ r. ⌜ r ≡ hit least (drop i (now (s .entry))) ⌝ }
-{
-    if s[i] != 0 {
-        return false;
-    }
-    if s[i + 1] != 0 {
-        return false;
-    }
-    let c = s[i + 2];
-    if c < least {
-        return false;
-    }
-    c <= 1
-}
-
 // The first start code from `from` on, or the end. It most often begins at `from` or a byte later: only then are blocks searched.
 fn seek_start(s: &[u8], from: usize) -> usize
     requires { ⌜ from ≤ length (now s) ⌝ }
@@ -41,11 +24,11 @@ fn seek_start(s: &[u8], from: usize) -> usize
     if s.len() - from < 4 {
         return seek(s, from, 1, 1);
     }
-    if hit_at(s, from, 1) {
+    if hit_at(s, from, 1, 1) {
         return from;
     }
     let i = from + 1;
-    if hit_at(s, i, 1) {
+    if hit_at(s, i, 1, 1) {
         return i;
     }
     seek(s, i, 1, 1)

@@ -5,8 +5,8 @@ use mathlib.Core.Path.{_≡_, refl, _∙_}
 use Prim.Native.Nat.{_+_, _-_, _≤_}
 use lib.ListN.{length, getD, length-set}
 use lib.Seq.{paste, paste-zero, paste-suc}
-use Rattle.framed.proofs.put.copy_in.Statement.{statement}
-use Rattle.framed.proofs.put.copy_in.Tie as tie
+use Rattle.bits.proofs.copy.copy_all.Statement.{statement}
+use Rattle.bits.proofs.copy.copy_all.Tie as tie
 
 abbrev Inv-loop : tie.InvT-loop
 Inv-loop src dst₀ at j₀ dst j = (j ≤ length src) × (length dst ≡ length dst₀) × (dst ≡ paste dst₀ at src j)
@@ -34,8 +34,8 @@ returns c =
     let q : l .loop .j ≡ length (l .before .args .src .now) = omega arith in
     (omega arith, rw (← q) (l .loop .inv .2))
 
-pub copy-in-spec : {M : Type 1} → statement M
-copy-in-spec =
+pub copy-all-spec : {M : Type 1} → statement M
+copy-all-spec =
     tie.close
     (tie.spec
     Inv-loop
