@@ -1,6 +1,6 @@
 -- The bits of a slice: how many there are, and that they are those of all its bytes, for any slice that fits in a machine.
-use mathlib.Core.Path.{_≡_, refl, sym}
-use mathlib.Core.List.{List, [], _∷_}
+use mathlib.Core.Path.{_≡_, refl, sym, ap, _∙_}
+use mathlib.Core.List.{List, [], _∷_, _++_, append-assoc}
 use Prim.Native.Nat.{ℕ, _*_, _≤_, _<_}
 use native.Mathlib.Omega.{arith}
 use native.Mathlib.Decide.{decLt}
@@ -10,13 +10,18 @@ use lib.Dec.{ltb}
 use lib.ListN.{length, take, length-append, length-take}
 use lib.Seq.{length-take-le, take-all, take-length}
 use Rattle.bits.specs.Refusals.{pick}
-use Rattle.bits.specs.Bits.{bytesBits, reach, bitsOf}
+use Rattle.bits.specs.Bits.{Bits, digits, bytesBits, reach, bitsOf}
 use Rattle.bits.proofs.Digits.{length-digits}
 
 pub length-bytes : (s : List ℕ) → length (bytesBits s) ≡ 8 * length s
 unfolding bytesBits
 length-bytes [] = refl
 length-bytes (b ∷ s) = rw (length-append, length-digits 8 b) (omega (arith, length-bytes s))
+
+pub bytes-append : (x y : List ℕ) → bytesBits (x ++ y) ≡ bytesBits x ++ bytesBits y
+unfolding bytesBits
+bytes-append [] y = refl
+bytes-append (b ∷ x) y = ap (λ (s : Bits). digits 8 b ++ s) (bytes-append x y) ∙ sym (append-assoc (digits 8 b) (bytesBits x) (bytesBits y))
 
 pub bits-reach : (s : List ℕ) → length s ≤ reach → bitsOf s ≡ bytesBits s
 unfolding bitsOf

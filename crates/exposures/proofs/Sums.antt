@@ -5,25 +5,17 @@ use mathlib.Core.Bool.{Bool, true, false}
 use mathlib.Core.List.{List, [], _∷_}
 use native.Mathlib.Omega.{arith}
 use borrow.Author.Tests.{leb-false, lt-leb}
-use lib.Dec.{leb, ltb}
-use lib.IntN.{ℤ, pos, negsuc, _+ℤ_, subℕ}
+use lib.Dec.{leb}
+use lib.IntN.{ℤ, pos, negsuc, _+ℤ_}
 use lib.ListN.{length}
 use lib.Signed.{mag, leZ}
 use mir.Syntax.{w64}
 use mir.Val.{SFits}
 use Rattle.bits.specs.Refusals.{pick}
 use Rattle.bits.proofs.Results.{cases}
+use Rattle.fields.proofs.Sums.{mag-add}
 use Rattle.exposures.specs.declared.slice.Slice.{Slice}
 use Rattle.exposures.specs.Exposure.{near, plus, over}
-
-mag-sub : (a b : ℕ) → mag (subℕ a b) ≤ a + b
-mag-sub a b = cases (ltb a b) (λ h. rw h (omega arith)) (λ h. rw h (omega arith))
-
-mag-add : (a b : ℤ) → mag (a +ℤ b) ≤ mag a + mag b + 1
-mag-add (pos a) (pos b) = omega arith
-mag-add (pos a) (negsuc b) = omega (arith, mag-sub a (suc b))
-mag-add (negsuc a) (pos b) = omega (arith, mag-sub b (suc a))
-mag-add (negsuc a) (negsuc b) = omega arith
 
 near-mag : (z : ℤ) → mag (near z) ≤ 2305843009213693952
 unfolding near

@@ -16,7 +16,7 @@ use Rattle.table.proofs.Signs.{held, wide-is}
 mag-sub : (a b : ℕ) → mag (subℕ a b) ≤ a + b
 mag-sub a b = cases (ltb a b) (λ h. rw h (omega arith)) (λ h. rw h (omega arith))
 
-mag-add : (a b : ℤ) → mag (a +ℤ b) ≤ mag a + mag b + 1
+pub mag-add : (a b : ℤ) → mag (a +ℤ b) ≤ mag a + mag b + 1
 mag-add (pos a) (pos b) = omega arith
 mag-add (pos a) (negsuc b) = omega (arith, mag-sub a (suc b))
 mag-add (negsuc a) (pos b) = omega (arith, mag-sub b (suc a))

@@ -4,36 +4,36 @@ use mathlib.Core.List.{[], _∷_, _++_}
 use lib.IntN.{pos}
 use Rattle.bits.specs.Refusals.{refusal}
 use Rattle.walk.specs.Walk.{lenOf}
-use Rattle.framed.specs.declared.step.FramedStep.{FramedStep}
+use Rattle.walk.specs.declared.walk.Step.{Step}
 use Rattle.framed.specs.declared.convert.Converted.{Converted}
 use Rattle.framed.specs.Framed.{framedUnits, nextFramed}
 use Rattle.framed.specs.Convert.{refuses, toStartCodes, toLengths}
 
 module _ where
   -- a unit without a byte, and the end
-  pub empty-unit : nextFramed (0 ∷ 0 ∷ 0 ∷ 0 ∷ []) 0 ≡ FramedStep.Unit 4 0 4
+  pub empty-unit : nextFramed (0 ∷ 0 ∷ 0 ∷ 0 ∷ []) 0 ≡ Step.Unit 4 0 4
   unfolding nextFramed
   empty-unit = refl
 
-  pub at-end : nextFramed (0 ∷ 0 ∷ 0 ∷ 0 ∷ []) 4 ≡ FramedStep.End
+  pub at-end : nextFramed (0 ∷ 0 ∷ 0 ∷ 0 ∷ []) 4 ≡ Step.End
   unfolding nextFramed
   at-end = refl
 
-  pub past-end : nextFramed (0 ∷ 0 ∷ 0 ∷ 0 ∷ []) 99 ≡ FramedStep.End
+  pub past-end : nextFramed (0 ∷ 0 ∷ 0 ∷ 0 ∷ []) 99 ≡ Step.End
   unfolding nextFramed
   past-end = refl
 
   -- three bytes where a length starts; a byte less than the length says
-  pub three-left : nextFramed (0 ∷ 0 ∷ 0 ∷ 0 ∷ 7 ∷ 7 ∷ 7 ∷ []) 4 ≡ FramedStep.Refused (refusal 29 (pos 4))
+  pub three-left : nextFramed (0 ∷ 0 ∷ 0 ∷ 0 ∷ 7 ∷ 7 ∷ 7 ∷ []) 4 ≡ Step.Refused (refusal 29 (pos 4))
   unfolding nextFramed
   three-left = refl
 
-  pub one-less : nextFramed (0 ∷ 0 ∷ 0 ∷ 2 ∷ 65 ∷ []) 0 ≡ FramedStep.Refused (refusal 29 (pos 0))
+  pub one-less : nextFramed (0 ∷ 0 ∷ 0 ∷ 2 ∷ 65 ∷ []) 0 ≡ Step.Refused (refusal 29 (pos 0))
   unfolding nextFramed
   one-less = refl
 
   -- from the middle of a length: 00 01 00 00 is taken for one
-  pub from-middle : nextFramed (0 ∷ 0 ∷ 0 ∷ 1 ∷ 0 ∷ 0 ∷ 7 ∷ []) 2 ≡ FramedStep.Refused (refusal 29 (pos 2))
+  pub from-middle : nextFramed (0 ∷ 0 ∷ 0 ∷ 1 ∷ 0 ∷ 0 ∷ 7 ∷ []) 2 ≡ Step.Refused (refusal 29 (pos 2))
   unfolding nextFramed
   from-middle = refl
 
@@ -68,7 +68,7 @@ module _ where
   pub behind : framedUnits ((0 ∷ []) ++ (0 ∷ 0 ∷ 0 ∷ 0 ∷ [])) ≡ record { place = 4; size = 0; next = 4; read = [] } ∷ []
   behind = refl
 
-  pub behind-then : nextFramed ((0 ∷ []) ++ (0 ∷ 0 ∷ 0 ∷ 0 ∷ [])) 4 ≡ FramedStep.Refused (refusal 29 (pos 4))
+  pub behind-then : nextFramed ((0 ∷ []) ++ (0 ∷ 0 ∷ 0 ∷ 0 ∷ [])) 4 ≡ Step.Refused (refusal 29 (pos 4))
   unfolding nextFramed
   behind-then = refl
 

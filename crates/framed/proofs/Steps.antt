@@ -6,16 +6,14 @@ use mathlib.Core.Bool.{Bool, true, false}
 use Prim.Native.Nat.{ℕ, _+_, _-_, _≤_, _<_}
 use native.Mathlib.Omega.{arith}
 use native.Mathlib.Decide.{decLt}
-use denote.Enum.Declared.{tagOf}
-use types.Run.{OneOf}
 use lib.Dec.{ltb}
 use borrow.Author.Tests.{le-leb, lt-leb, lt-ltb, le-ltb}
 use lib.IntN.{pos}
 use lib.ListN.{length, take, drop}
 use Rattle.bits.specs.Refusals.{pick, refusal, tooLarge, limit}
 use Rattle.walk.specs.Units.{Span}
-use Rattle.framed.specs.declared.step.FramedStep.{FramedStep}
-use Rattle.framed.proofs.step.FramedStep.{the-type}
+use Rattle.walk.proofs.Steps.{NoUnit}
+use Rattle.walk.specs.declared.walk.Step.{Step}
 use Rattle.framed.specs.Framed.{brokenLength, framedAt, stepTo, nextFramed}
 use Rattle.framed.proofs.Frames.{sizeAt, short-at, broken-at, unit-at}
 
@@ -26,12 +24,8 @@ pub record Went (s : List ℕ) (from p l m : ℕ) : Type 0 where
   pub within : m ≤ length s
   pub there : framedAt 0 from (drop from s) ≡ record { place = p; size = l; next = m; read = take l (drop p s) } ∷ framedAt 0 m (drop m s)
 
--- what is known where a step is not taken apart as a unit
-abbrev pub NoUnit : FramedStep → Type 0
-NoUnit r = OneOf (1 ∷ 2 ∷ []) (tagOf the-type r)
-
 module _ (s : List ℕ) (from : ℕ) where
-  pub over : limit < length s → FramedStep.Refused (refusal tooLarge (pos 0)) ≡ nextFramed s from
+  pub over : limit < length s → Step.Refused (refusal tooLarge (pos 0)) ≡ nextFramed s from
   unfolding nextFramed
   over h = rw (lt-leb (length s) limit h)
 
@@ -40,28 +34,28 @@ module _ (s : List ℕ) (from : ℕ) where
     unfolding nextFramed
     stays = rw (le-leb (length s) limit small)
 
-    pub at-end : length s ≤ from → FramedStep.End ≡ nextFramed s from
+    pub at-end : length s ≤ from → Step.End ≡ nextFramed s from
     at-end h =
         let e : framedAt 0 from (drop from s) ≡ [] = short-at s from (omega arith) in
         rw (← stays, e, le-ltb from (length s) h)
 
-    broken : from < length s → framedAt 0 from (drop from s) ≡ [] → FramedStep.Refused (refusal brokenLength (pos from)) ≡ nextFramed s from
+    broken : from < length s → framedAt 0 from (drop from s) ≡ [] → Step.Refused (refusal brokenLength (pos from)) ≡ nextFramed s from
     broken h e = rw (← stays, e, lt-ltb from (length s) h)
 
-    pub few : from < length s → length s < from + 4 → FramedStep.Refused (refusal brokenLength (pos from)) ≡ nextFramed s from
+    pub few : from < length s → length s < from + 4 → Step.Refused (refusal brokenLength (pos from)) ≡ nextFramed s from
     few h l = broken h (short-at s from l)
 
-    pub fewer : from + 3 < length s → length s < from + 4 + sizeAt s from → FramedStep.Refused (refusal brokenLength (pos from)) ≡ nextFramed s from
+    pub fewer : from + 3 < length s → length s < from + 4 + sizeAt s from → Step.Refused (refusal brokenLength (pos from)) ≡ nextFramed s from
     fewer h l = broken (omega arith) (broken-at s from h l)
 
-    pub at-unit : from + 3 < length s → from + 4 + sizeAt s from ≤ length s → FramedStep.Unit (from + 4) (sizeAt s from) (from + 4 + sizeAt s from) ≡ nextFramed s from
+    pub at-unit : from + 3 < length s → from + 4 + sizeAt s from ≤ length s → Step.Unit (from + 4) (sizeAt s from) (from + 4 + sizeAt s from) ≡ nextFramed s from
     at-unit h l = rw (← stays, unit-at s from h l)
 
     -- where the step is to no unit, none is left
-    pub stopped : {r : FramedStep} → r ≡ nextFramed s from → NoUnit r → framedAt 0 from (drop from s) ≡ []
+    pub stopped : {r : Step} → r ≡ nextFramed s from → NoUnit r → framedAt 0 from (drop from s) ≡ []
     stopped {r} e k = go (framedAt 0 from (drop from s)) (e ∙ sym stays)
       where
-        none : (p l m : ℕ) → NoUnit (FramedStep.Unit p l m) → ⊥
+        none : (p l m : ℕ) → NoUnit (Step.Unit p l m) → ⊥
         none p l m (inl e) = omega arith
         none p l m (inr e) = omega arith
 
@@ -69,13 +63,13 @@ module _ (s : List ℕ) (from : ℕ) where
         go [] q = refl
         go (u ∷ us) q = absurd (none (u .place) (u .size) (u .next) (rw q at k))
 
-    pub went : {p l m : ℕ} → nextFramed s from ≡ FramedStep.Unit p l m → Went s from p l m
+    pub went : {p l m : ℕ} → nextFramed s from ≡ Step.Unit p l m → Went s from p l m
     went {p} {l} {m} e = go (decLt (from + 3) (length s)) (decLt (length s) (from + 4 + sizeAt s from))
       where
         no-unit : framedAt 0 from (drop from s) ≡ [] → ⊥
         no-unit z = tell (ltb from (length s)) (rw z at stays ∙ e)
           where
-            tell : (t : Bool) → pick t (FramedStep.Refused (refusal brokenLength (pos from))) FramedStep.End ≡ FramedStep.Unit p l m → ⊥
+            tell : (t : Bool) → pick t (Step.Refused (refusal brokenLength (pos from))) Step.End ≡ Step.Unit p l m → ⊥
             tell true q = let z : _≡_ {A = ℕ} 0 1 = cc in omega arith
             tell false q = let z : _≡_ {A = ℕ} 0 1 = cc in omega arith
 
@@ -83,7 +77,7 @@ module _ (s : List ℕ) (from : ℕ) where
         go (no h) d = absurd (no-unit (short-at s from (omega arith)))
         go (yes h) (yes d) = absurd (no-unit (broken-at s from h d))
         go (yes h) (no d) =
-            let q : FramedStep.Unit (from + 4) (sizeAt s from) (from + 4 + sizeAt s from) ≡ FramedStep.Unit p l m = at-unit h (omega arith) ∙ e in
+            let q : Step.Unit (from + 4) (sizeAt s from) (from + 4 + sizeAt s from) ≡ Step.Unit p l m = at-unit h (omega arith) ∙ e in
             let qp : from + 4 ≡ p = cc in
             let ql : sizeAt s from ≡ l = cc in
             let qm : from + 4 + sizeAt s from ≡ m = cc in

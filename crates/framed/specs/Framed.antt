@@ -7,7 +7,7 @@ use lib.ListN.{length, take, drop}
 use Rattle.bits.specs.Refusals.{pick, refusal, tooLarge, limit}
 use Rattle.walk.specs.Units.{Report, Span}
 use Rattle.walk.specs.Reports.{sift}
-use Rattle.framed.specs.declared.step.FramedStep.{FramedStep}
+use Rattle.walk.specs.declared.walk.Step.{Step}
 
 -- fewer bytes are left than a length says, or 1 to 3 bytes where a length starts; its value is the place of the length
 abbrev pub brokenLength : ℕ
@@ -44,12 +44,12 @@ abbrev pub endsBy : {A : Type 0} → ℕ → List (Report A) → List (Report A)
 endsBy {A} k rs = sift (λ (u : Report A). leb (u .next) k) rs
 
 -- where a step from `from` comes to in a recording of n bytes, us being the units from there on: the first of them; without one the end, or 29 where bytes are left
-abbrev pub stepTo : ℕ → ℕ → List Span → FramedStep
-stepTo from n (u ∷ us) = FramedStep.Unit (u .place) (u .size) (u .next)
-stepTo from n [] = pick (ltb from n) (FramedStep.Refused (refusal brokenLength (pos from))) FramedStep.End
+abbrev pub stepTo : ℕ → ℕ → List Span → Step
+stepTo from n (u ∷ us) = Step.Unit (u .place) (u .size) (u .next)
+stepTo from n [] = pick (ltb from n) (Step.Refused (refusal brokenLength (pos from))) Step.End
 
 -- one step, from any place: what stands there is taken for a length, whether a unit ended there or not. 27 first
-unfoldable pub nextFramed : List ℕ → ℕ → FramedStep
+unfoldable pub nextFramed : List ℕ → ℕ → Step
 nextFramed recording from =
     pick (leb (length recording) limit) (stepTo from (length recording) (framedAt 0 from (drop from recording)))
-    (FramedStep.Refused (refusal tooLarge (pos 0)))
+    (Step.Refused (refusal tooLarge (pos 0)))

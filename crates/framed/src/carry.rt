@@ -1,7 +1,7 @@
 // Which units can be carried from lengths to start codes: those in which no end mark stands, and whose last byte is not zero.
-use crate::step::FramedStep;
 use crate::step::next_framed;
 use scan::scan::seek;
+use walk::walk::Step;
 ghost use mathlib.Core.Path.{_≡_};
 ghost use Prim.Native.Nat.{_≤_};
 ghost use Rattle.bits.specs.Refusals.{limit};
@@ -34,7 +34,7 @@ pub(crate) fn first_uncarried(recording: &[u8]) -> Uncarried
 {
     let mut i: usize = 0;
     loop {
-        let FramedStep::Unit(place, _, next) = next_framed(recording, i) else {
+        let Step::Unit(place, _, next) = next_framed(recording, i) else {
             return Uncarried::Nowhere;
         };
         if is_carried(&recording[place..next]) {

@@ -2,7 +2,6 @@
 use crate::carry::Uncarried;
 use crate::carry::first_uncarried;
 use crate::put::put_unit;
-use crate::step::FramedStep;
 use crate::step::next_framed;
 use crate::step::units_end;
 use bits::refusals::BROKEN_LENGTH;
@@ -14,6 +13,7 @@ use bits::refusals::TOO_LARGE;
 use bits::refusals::refuse;
 use walk::search::Found;
 use walk::search::next_unit;
+use walk::walk::Step;
 ghost use mathlib.Core.Path.{_≡_};
 ghost use Prim.Native.Nat.{_%_, _≤_};
 ghost use Rattle.bits.specs.Refusals.{limit};
@@ -38,7 +38,7 @@ fn put_codes(recording: &[u8], out: &mut [u8]) -> usize
     let mut i: usize = 0;
     let mut o: usize = 0;
     loop {
-        let FramedStep::Unit(place, _, next) = next_framed(recording, i) else {
+        let Step::Unit(place, _, next) = next_framed(recording, i) else {
             return o;
         };
         o = put_unit(out, o, 0, 0, 0, 1, &recording[place..next]);

@@ -1,21 +1,14 @@
 // The walk over a recording framed by length: each unit stands behind its length, four bytes, the first the highest.
 use bits::refusals::BROKEN_LENGTH;
 use bits::refusals::LIMIT;
-use bits::refusals::Refusal;
 use bits::refusals::TOO_LARGE;
 use bits::refusals::refuse;
+use walk::walk::Step;
 ghost use mathlib.Core.Path.{_≡_};
 ghost use Prim.Native.Nat.{_+_, _<_, _≤_};
 ghost use Rattle.bits.specs.Refusals.{limit};
 ghost use lib.ListN.{length, getD};
 ghost use Rattle.framed.specs.Framed.{four, framedUnits, endOf, nextFramed};
-
-// What a step came to: a unit's place, its length and the place to go on from; the end; or refusal 27 or 29.
-pub enum FramedStep {
-    Unit(usize, usize, usize),
-    End,
-    Refused(Refusal),
-}
 
 fn wide(x: u8) -> usize
     ensures { λ r. ⌜ (r ≡ x) × (r < 256) ⌝ }
@@ -31,27 +24,27 @@ fn length_at(s: &[u8], at: usize) -> usize
     ((wide(s[at]) * 256 + wide(s[at + 1])) * 256 + wide(s[at + 2])) * 256 + wide(s[at + 3])
 }
 
-// The unit whose length stands at `from`. Any place may be asked from: what stands there is taken for a length.
-pub fn next_framed(recording: &[u8], from: usize) -> FramedStep
+// The unit whose length stands at `from`; without one the end, 27 or 29. Any place may be asked from: what stands there is taken for a length.
+pub fn next_framed(recording: &[u8], from: usize) -> Step
     ensures { λ r. ⌜ r ≡ nextFramed (now (recording .entry)) from ⌝ }
 {
     let n = recording.len();
     if LIMIT < n {
-        return FramedStep::Refused(refuse(TOO_LARGE, 0));
+        return Step::Refused(refuse(TOO_LARGE, 0));
     }
     if n <= from {
-        return FramedStep::End;
+        return Step::End;
     }
     let left = n - from;
     if left < 4 {
-        return FramedStep::Refused(refuse(BROKEN_LENGTH, from as i64));
+        return Step::Refused(refuse(BROKEN_LENGTH, from as i64));
     }
     let size = length_at(recording, from);
     if left - 4 < size {
-        return FramedStep::Refused(refuse(BROKEN_LENGTH, from as i64));
+        return Step::Refused(refuse(BROKEN_LENGTH, from as i64));
     }
     let place = from + 4;
-    FramedStep::Unit(place, size, place + size)
+    Step::Unit(place, size, place + size)
 }
 
 // Where the units end: the recording's end, or the place of a length that is broken.
@@ -61,7 +54,7 @@ pub(crate) fn units_end(recording: &[u8]) -> usize
 {
     let mut i: usize = 0;
     loop {
-        let FramedStep::Unit(_, _, next) = next_framed(recording, i) else {
+        let Step::Unit(_, _, next) = next_framed(recording, i) else {
             return i;
         };
         i = next;

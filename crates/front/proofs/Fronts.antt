@@ -27,7 +27,8 @@ use Rattle.syntax.specs.SliceHeader.{header, anySet, readHeader}
 use Rattle.syntax.specs.Prefix.{prefix}
 use Rattle.syntax.proofs.Ahead.{header-ahead, prefix-ahead}
 use Rattle.front.specs.Seam.{bodyBits, behindBits, near, far, farBody}
-use Rattle.front.proofs.Seams.{bytes-append, cut-bits, two-thirds}
+use Rattle.bits.proofs.Slices.{bytes-append}
+use Rattle.front.proofs.Seams.{cut-bits, two-thirds}
 
 -- ---- bits
 

@@ -5,3 +5,4 @@ pub mod Fronts
 pub mod Steps
 pub mod Cases
 pub mod Answers
+pub mod Units

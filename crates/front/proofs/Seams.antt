@@ -1,7 +1,7 @@
 -- Bodies cut in two: what unescaping does to the part in front, and what it goes on with behind.
 use Prim.Native.Nat.{ℕ, zero, suc, _+_, _-_, _*_, _≤_, _<_}
 use mathlib.Core.Path.{_≡_, refl, sym, ap, _∙_}
-use mathlib.Core.List.{List, [], _∷_, _++_, append-assoc}
+use mathlib.Core.List.{List, [], _∷_, _++_}
 use mathlib.Core.Bool.{Bool, true, false, _&&_}
 use native.Mathlib.Omega.{arith}
 use borrow.Author.Tests.{leb-true, eqb-true}
@@ -9,7 +9,8 @@ use lib.Dec.{eqb, leb}
 use lib.ListN.{length, take, drop, take-append-drop}
 use lib.Seq.{drop-append-le, length-take-le}
 use Rattle.bits.specs.Refusals.{pick}
-use Rattle.bits.specs.Bits.{Bits, digits, bytesBits}
+use Rattle.bits.specs.Bits.{bytesBits}
+use Rattle.bits.proofs.Slices.{bytes-append}
 use Rattle.escape.specs.Body.{drops, zeros, body}
 use Rattle.front.specs.Seam.{zerosOver, bodyBits, behindBits}
 
@@ -40,11 +41,6 @@ body-append z (a ∷ p) r = go (drops z a) refl (body-append 0 p r) (body-append
         → pick t (body 0 (p ++ r)) (a ∷ body (zeros z a) (p ++ r)) ≡ pick t (body 0 p) (a ∷ body (zeros z a) p) ++ body (zerosOver (zeros z a) p) r
     go true e h l = let q : zeros z a ≡ 0 = rw (drop-three z a e) in rw q h
     go false e h l = ap (λ (s : List ℕ). a ∷ s) l
-
-pub bytes-append : (x y : List ℕ) → bytesBits (x ++ y) ≡ bytesBits x ++ bytesBits y
-unfolding bytesBits
-bytes-append [] y = refl
-bytes-append (b ∷ x) y = ap (λ (s : Bits). digits 8 b ++ s) (bytes-append x y) ∙ sym (append-assoc (digits 8 b) (bytesBits x) (bytesBits y))
 
 pub cut-bits : (unit : List ℕ) (from k : ℕ) → from ≤ k → k ≤ length unit → bodyBits unit from ≡ bodyBits (take k unit) from ++ behindBits unit from k
 cut-bits unit from k h l =

@@ -1,12 +1,14 @@
--- Pieces of text one after another: what two puts come to, and what the turns of `words` keep.
+-- Pieces of text one after another: what two puts come to, and what a copy puts.
 use mathlib.Core.Path.{_≡_, refl, sym, ap, _∙_}
 use mathlib.Core.List.{List, [], _∷_, _++_}
-use Prim.Native.Nat.{ℕ, suc, _+_, _≤_, _<_}
+use Prim.Native.Nat.{ℕ, suc, _+_, _≤_}
 use native.Mathlib.Omega.{arith}
 use native.Mathlib.Nat.{add-zero, zero-add}
-use native.Mathlib.Numerals.{add-one}
-use lib.ListN.{length, getD, set, take, drop, length-append}
-use lib.Seq.{sets, sets-eq, take-suc, take-length, take-append-seam, length-sets}
+use lib.ListN.{length, set, take, drop, length-append}
+use lib.Seq.{sets, sets-eq, take-length, take-append-seam, length-sets}
+use Rattle.bits.specs.Refusals.{pick}
+use Rattle.bits.specs.Copy.{hasRoom, copied}
+use Rattle.bits.proofs.Copies.{copied-all, copied-to}
 use Rattle.lines.specs.Text.{Put}
 use Rattle.lines.specs.Lines.{Written}
 
@@ -43,13 +45,8 @@ text-of {a} {b} {x} {n} w e =
 pub same-line : {a b x : List ℕ} {n : ℕ} → Written x a n b → length b ≡ length a
 same-line {a} {b} {x} w = ap length (w .front) ∙ length-sets a 0 x
 
--- ---- `words`, a byte a turn
+-- ---- `words`, which copies
 
-pub turn : (a b w : List ℕ) (at i : ℕ) → i < length w → Put a at (take i w) (at + i) b → Put a at (take (i + 1) w) (at + (i + 1)) (set b (at + i) (getD w i 0))
-turn a b w at i h p =
-    let e : take (i + 1) w ≡ take i w ++ (getD w i 0 ∷ []) = rw add-one (take-suc w i 0 h) in
-    let f : at + (i + 1) ≡ at + i + 1 = omega arith in
-    rw (e, f) (then p (byte b (at + i) (getD w i 0)))
-
-pub all-of : (a b w : List ℕ) (at i : ℕ) → i ≡ length w → Put a at (take i w) (at + i) b → Put a at w (at + i) b
-all-of a b w at i e p = let f : take i w ≡ w = ap (λ (k : ℕ). take k w) e ∙ take-length w in rw f at p
+pub copied-text : (a w : List ℕ) (at : ℕ) {r : ℕ} {b : List ℕ} → at + length w ≤ length a → r ≡ pick (hasRoom w a at) (at + length w) at → b ≡ copied w a at → Put a at w r b
+copied-text a w at room e f =
+    record { end = copied-to w a at room e; holds = f ∙ copied-all w a at room ∙ ap (λ (x : List ℕ). take at a ++ x ++ drop (at + length w) a) (take-length w) ∙ sym (sets-eq w a at room) }

@@ -1,4 +1,5 @@
 // Pieces of text, each put into a line's buffer at a place; the answer is the place after it.
+use bits::copy::copy_in;
 ghost use mathlib.Core.Path.{_≡_};
 ghost use mathlib.Core.List.{_++_};
 ghost use Prim.Native.Nat.{_+_, _≤_};
@@ -10,12 +11,7 @@ pub(crate) fn words(d: &mut [u8; 128], at: usize, w: &[u8]) -> usize
     requires { ⌜ at + length (now w) ≤ 128 ⌝ }
     ensures { λ r. ⌜ Put (now (d .entry)) at (now (w .entry)) r (now (d .exit)) ⌝ }
 {
-    let mut i = 0;
-    while i < w.len() {
-        d[at + i] = w[i];
-        i += 1;
-    }
-    at + i
+    copy_in(w, d, at)
 }
 
 // Decimal digits, as the definition has them: those of a tenth, then the last.

@@ -1,24 +1,22 @@
 -- The cases of one step of a listing.
 use mathlib.Core.Path.{_≡_, refl, sym, ap, ap₂, subst, _∙_}
-use mathlib.Core.List.{List, []}
+use mathlib.Core.List.{List}
 use mathlib.Core.Bool.{Bool, true, false, true≢false}
 use Prim.Native.Nat.{ℕ, suc, _+_, _-_, _≤_, _<_}
 use native.Mathlib.Omega.{arith}
 use borrow.Author.Tests.{le-leb, lt-leb, lt-ltb, leb-true, leb-false}
 use lib.Dec.{leb}
-use lib.ListN.{length, take, drop, length-take, length-drop}
-use Rattle.bits.specs.Refusals.{limit}
+use lib.ListN.{length, length-take, length-drop}
 use Rattle.table.specs.declared.table.Table.{Table}
 use Rattle.unit.specs.declared.answer.UnitAnswer.{UnitAnswer}
 use Rattle.unit.specs.declared.answer.UnitRead.{UnitRead}
+use Rattle.unit.specs.Unit.{unitRead}
 use Rattle.unit.specs.Into.{short, shortAnswer, wordsAfter}
-use Rattle.walk.specs.declared.search.Found.{Found}
 use Rattle.walk.specs.declared.walk.Step.{Step}
-use Rattle.walk.specs.Walk.{nextUnit}
-use Rattle.walk.specs.Walked.{WalkOut, tableAfter, nothing, walked}
-use Rattle.walk.proofs.Steps.{at-end, at-unit}
+use Rattle.walk.specs.Walked.{tableAfter, nextStep, walked}
+use Rattle.walk.proofs.Steps.{found-at, step-of, table-of}
 use Rattle.walk.proofs.Chain.{Went, went}
-use Rattle.lines.specs.Lines.{endLine, tooLongLine, unitLine, lentLine, Written}
+use Rattle.lines.specs.Lines.{tooLongLine, unitLine, lentLine, Written}
 use Rattle.lines.proofs.Lent.{lent-line}
 use Rattle.list_steps.specs.declared.step.State.{State}
 use Rattle.list_steps.specs.declared.step.Listed.{Listed}
@@ -33,37 +31,16 @@ one-more n h = rw (lt-ltb n most h)
 pub ends : {text line line′ : List ℕ} {st : State} {r : Listed} → Ends text st line r line′ → (scratch : List ℕ) (t : Table) → Stepped (last text st scratch t) line r scratch line′ t
 ends e scratch t = record { state = e .state; more = e .more; text = e .text; left = refl; table = refl }
 
--- where a step of the walk comes to a unit, that lies ahead and within the recording
-abbrev stepOf : WalkOut → Step
-stepOf w = w .walked .step
-
-module _ (t : Table) (s : List ℕ) (from : ℕ) (scratch : List ℕ) (small : length s ≤ most) where
+module _ (t : Table) (s : List ℕ) (from : ℕ) (scratch : List ℕ) where
+  -- where a step of the walk comes to a unit, that lies ahead and within the recording
   pub ahead : (p n m : ℕ) → walked t s from scratch .walked .step ≡ Step.Unit p n m → Went s from p n m
-  unfolding nothing
-  ahead p n m e = go (nextUnit s from) refl
-    where
-      go : (f : Found) → nextUnit s from ≡ f → Went s from p n m
-      go (Found.At p′ n′ m′) d =
-          let q : Step.Unit p′ n′ m′ ≡ Step.Unit p n m = sym (ap stepOf (at-unit t s from scratch (omega arith) d)) ∙ e in
-          let f : nextUnit s from ≡ Found.At p n m = cc in
-          went s from p n m f
-      go Found.End d =
-          let q : Step.End ≡ Step.Unit p n m = sym (ap stepOf (at-end t s from scratch (omega arith) d)) ∙ e in
-          let z : _≡_ {A = ℕ} 0 1 = cc in
-          absurd (omega arith)
+  unfolding walked
+  ahead p n m e = went s from p n m (found-at s from (sym (step-of unitRead t s scratch (nextStep s from)) ∙ e))
 
-  -- the table that a step to a unit leaves is that after the unit
-  pub table-after : (p n m : ℕ) → walked t s from scratch .walked .step ≡ Step.Unit p n m
-      → tableAfter t (walked t s from scratch .walked .read .answer) ≡ walked t s from scratch .table
-  unfolding nothing
-  table-after p n m e = go (nextUnit s from) refl
-    where
-      go : (f : Found) → nextUnit s from ≡ f → tableAfter t (walked t s from scratch .walked .read .answer) ≡ walked t s from scratch .table
-      go (Found.At p′ n′ m′) d = rw (at-unit t s from scratch (omega arith) d)
-      go Found.End d =
-          let q : Step.End ≡ Step.Unit p n m = sym (ap stepOf (at-end t s from scratch (omega arith) d)) ∙ e in
-          let z : _≡_ {A = ℕ} 0 1 = cc in
-          absurd (omega arith)
+  -- the table that it leaves is that after the unit
+  pub table-after : tableAfter t (walked t s from scratch .walked .read .answer) ≡ walked t s from scratch .table
+  unfolding walked
+  table-after = sym (table-of unitRead t s scratch (nextStep s from))
 
   pub inside : {r : Next} {z : List ℕ} {v : Table} {p n m : ℕ} → Met (walked t s from scratch) r z v → r .step ≡ Step.Unit p n m → p + n ≤ length s
   inside {p = p} {n = n} {m = m} e g = let w = ahead p n m (sym (e .step) ∙ g) in omega (arith, w .inside, w .within)
@@ -104,7 +81,7 @@ module _ (t : Table) (s : List ℕ) (st : State) (scratch : List ℕ) where
   unit-stepped h {r} {z} {v} {p} {n} {m} e g {line} {line′} {length′} {st′} w c =
       let u = walked t s (st .from) scratch .walked .read in
       let k : p + n - p ≡ n = omega arith in
-      let i : p + n ≤ length s = inside t s (st .from) scratch h e g in
+      let i : p + n ≤ length s = inside t s (st .from) scratch e g in
       let l : n ≡ length (bytesAt s p n) = simp (length-take, length-drop) (omega arith) in
       let d : lentLine (v .pictures) p n (bytesAt s p (p + n - p)) (r .answer) (r .numbers) (r .signed) ≡ unitLine (v .pictures) p (bytesAt s p n) u =
       rw (k, e .answered, e .numbers, e .signed)
@@ -126,7 +103,7 @@ module _ (t : Table) (s : List ℕ) (st : State) (scratch : List ℕ) where
       by : length s ≤ most → (k : Step) → walked t s (st .from) scratch .walked .step ≡ k
           → (st .from < turn t s st scratch .state .from) × (turn t s st scratch .state .from ≤ length s)
       by h (Step.Unit p n m) g =
-          let w = ahead t s (st .from) scratch h p n m g in
+          let w = ahead t s (st .from) scratch p n m g in
           rw (turn-by h (Step.Unit p n m) refl refl g) (w .on, w .within)
       by h Step.End g = absurd (true≢false (sym e ∙ ap (λ (o : Turn). o .more) (turn-by h Step.End refl refl g)))
       by h (Step.Refused r) g = absurd (true≢false (sym e ∙ ap (λ (o : Turn). o .more) (turn-by h (Step.Refused r) refl refl g)))

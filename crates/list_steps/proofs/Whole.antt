@@ -5,7 +5,7 @@ use mathlib.Core.Bool.{Bool, true, false}
 use Prim.Native.Nat.{ℕ, zero, suc, _+_, _-_, _≤_, _<_}
 use native.Mathlib.Omega.{arith}
 use native.Mathlib.Nat.{add-zero, zero-add}
-use borrow.Author.Tests.{le-leb, lt-leb, leb-true, leb-false}
+use borrow.Author.Tests.{leb-true, leb-false}
 use lib.Dec.{leb}
 use lib.ListN.{length}
 use Rattle.bits.specs.Refusals.{pick}
@@ -16,7 +16,6 @@ use Rattle.walk.specs.declared.walk.Step.{Step}
 use Rattle.walk.specs.Units.{Report}
 use Rattle.walk.specs.Walked.{tableAfter, walked}
 use Rattle.walk.specs.Reports.{onward, reportsBy, reports}
-use Rattle.walk.proofs.Chain.{Went}
 use Rattle.walk.proofs.Demand.{no-more-reports}
 use Rattle.lines.specs.Lines.{unitLine, endLine, tooLongLine}
 use Rattle.list_steps.specs.declared.step.State.{State}
@@ -58,11 +57,11 @@ module _ (s : List ℕ) (small : length s ≤ most) where
   -- what f + 1 steps from a table and a state write
   abbrev Writes : ℕ → Table → State → List ℕ → Type 0
   Writes f t st scratch =
-      steps (suc f) s t st scratch ≡ unitLines t s (reportsBy f s t (st .from) scratch) ++ totals st (reportsBy f s t (st .from) scratch)
+      steps (suc f) s t st scratch ≡ unitLines t s (reportsBy walked f s t (st .from) scratch) ++ totals st (reportsBy walked f s t (st .from) scratch)
 
   -- the walk came to no unit
   ended : (f : ℕ) (t v : Table) (st : State) (scratch left : List ℕ) → turn t s st scratch ≡ last (endLine (st .units) (st .refused)) st left v
-      → reportsBy f s t (st .from) scratch ≡ [] → Writes f t st scratch
+      → reportsBy walked f s t (st .from) scratch ≡ [] → Writes f t st scratch
   ended f t v st scratch left e n =
       ap (λ (o : Turn). andOn o (steps f s)) e ∙ append-nil (endLine (st .units) (st .refused))
       ∙ sym (ap (λ (us : List (Report UnitRead)). unitLines t s us ++ totals st us) n ∙ ap₂ endLine (add-zero (st .units)) (add-zero (st .refused)))
@@ -76,11 +75,11 @@ module _ (s : List ℕ) (small : length s ≤ most) where
       let w = walked t s (st .from) scratch in
       let x : UnitRead = w .walked .read in
       let v : Table = w .table in
-      let a : tableAfter t (x .answer) ≡ v = table-after t s (st .from) scratch small p n m e in
+      let a : tableAfter t (x .answer) ≡ v = table-after t s (st .from) scratch in
       let u : Report UnitRead = record { place = p; size = n; next = m; read = x } in
-      let us : List (Report UnitRead) = reportsBy f s v m (w .left) in
+      let us : List (Report UnitRead) = reportsBy walked f s v m (w .left) in
       let line : List ℕ = unitLine (v .pictures) p (bytesAt s p n) x in
-      let r : reportsBy (suc f) s t (st .from) scratch ≡ u ∷ us = ap (λ (k : Step). onward k x (λ next. reportsBy f s v next (w .left))) e in
+      let r : reportsBy walked (suc f) s t (st .from) scratch ≡ u ∷ us = ap (λ (k : Step). onward k x (λ next. reportsBy walked f s v next (w .left))) e in
       ap (λ (o : Turn). andOn o (steps (suc f) s)) (turn-by t s st scratch small (Step.Unit p n m) refl refl e)
       ∙ ap (λ (y : List ℕ). line ++ y) (ih ∙ ap (λ (y : List ℕ). unitLines v s us ++ y) (moved st m u us h l))
       ∙ sym (append-assoc line (unitLines v s us) (totals st (u ∷ us)))
@@ -97,20 +96,20 @@ module _ (s : List ℕ) (small : length s ≤ most) where
   along zero t st scratch h a b = go (walked t s (st .from) scratch .walked .step) refl
     where
       go : (k : Step) → walked t s (st .from) scratch .walked .step ≡ k → Writes zero t st scratch
-      go (Step.Unit p n m) e = let w = ahead t s (st .from) scratch small p n m e in absurd (omega (arith, w .on, w .within))
+      go (Step.Unit p n m) e = let w = ahead t s (st .from) scratch p n m e in absurd (omega (arith, w .on, w .within))
       go Step.End e = ended zero t _ st scratch _ (turn-by t s st scratch small Step.End refl refl e) refl
       go (Step.Refused r) e = ended zero t _ st scratch _ (turn-by t s st scratch small (Step.Refused r) refl refl e) refl
   along (suc f) t st scratch h a b = go (along f) (walked t s (st .from) scratch .walked .step) refl
     where
       none : (k : Step) → walked t s (st .from) scratch .walked .step ≡ k
-          → reportsBy (suc f) s t (st .from) scratch ≡ onward k (walked t s (st .from) scratch .walked .read) (λ next. reportsBy f s (walked t s (st .from) scratch .table) next (walked t s (st .from) scratch .left))
+          → reportsBy walked (suc f) s t (st .from) scratch ≡ onward k (walked t s (st .from) scratch .walked .read) (λ next. reportsBy walked f s (walked t s (st .from) scratch .table) next (walked t s (st .from) scratch .left))
       none k e =
-          ap (λ (k : Step). onward k (walked t s (st .from) scratch .walked .read) (λ next. reportsBy f s (walked t s (st .from) scratch .table) next (walked t s (st .from) scratch .left))) e
+          ap (λ (k : Step). onward k (walked t s (st .from) scratch .walked .read) (λ next. reportsBy walked f s (walked t s (st .from) scratch .table) next (walked t s (st .from) scratch .left))) e
 
       go : ((t : Table) (st : State) (scratch : List ℕ) → length s ≤ st .from + f → st .units ≤ st .from → st .refused ≤ st .from → Writes f t st scratch)
           → (k : Step) → walked t s (st .from) scratch .walked .step ≡ k → Writes (suc f) t st scratch
       go ih (Step.Unit p n m) e =
-          let w = ahead t s (st .from) scratch small p n m e in
+          let w = ahead t s (st .from) scratch p n m e in
           let c : st .from < most = omega (arith, w .on, w .within) in
           let x : UnitRead = walked t s (st .from) scratch .walked .read in
           unit-on f t st scratch p n m e (omega arith) (omega arith)
@@ -130,7 +129,7 @@ module _ (t : Table) (scratch s : List ℕ) where
       (λ p. let h : length s ≤ most = leb-true (length s) most p in
       let k : f - length s + length s ≡ f = omega arith in
       let us : List (Report UnitRead) = reports t scratch s in
-      let e : reportsBy f s t 0 scratch ≡ us = rw k at (no-more-reports (f - length s) t scratch s (omega arith)) in
+      let e : reportsBy walked f s t 0 scratch ≡ us = rw k at (no-more-reports (f - length s) t scratch s (omega arith)) in
       along s h f t start scratch (omega arith) (omega arith) (omega arith)
       ∙ ap (λ (vs : List (Report UnitRead)). unitLines t s vs ++ totals start vs) e
       ∙ ap (λ (y : List ℕ). unitLines t s us ++ y) (ap₂ endLine (zero-add (length us)) (zero-add (length (refusedOnes us))))

@@ -25,10 +25,10 @@ use Rattle.unit.specs.Unit.{unitRead}
 use Rattle.walk.specs.declared.search.Found.{Found}
 use Rattle.walk.specs.declared.walk.Step.{Step}
 use Rattle.walk.specs.Walk.{upto, lenOf, firstFrom, unitAt, nextUnit}
-use Rattle.walk.specs.Walked.{WalkOut, nothing, nextStep, reading, walked}
+use Rattle.walk.specs.Walked.{WalkOut, nextStep, reading, walked}
 use Rattle.walk.proofs.Hits.{code-room}
 use Rattle.walk.proofs.Resync.{near}
-use Rattle.walk.proofs.Steps.{byStep, by-step, found-at, at-unit}
+use Rattle.walk.proofs.Steps.{step-found, found-at, walked-at, step-of}
 use Rattle.writer.specs.declared.given.ExtensionGiven.{ExtensionGiven}
 use Rattle.writer.proofs.Passed.{not-scalable}
 use Rattle.writer.proofs.Units.{byte, Starts, plain, with-extension, plain-short, begins, tells, starts, starts-body, slice-read, slice-reads}
@@ -149,18 +149,13 @@ same-code s s′ from p c room same =
 -- ---- a unit of a changed recording
 
 module _ (t : Table) (s s′ scratch scratch′ : List ℕ) (from p l n e : ℕ) where
-  step-of : (k : Step) → byStep t s scratch k .walked .step ≡ k
-  unfolding nothing
-  step-of (Step.Unit q m o) = refl
-  step-of Step.End = refl
-  step-of (Step.Refused r) = refl
-
   -- a step to a unit reads it
   reads-unit : walked t s from scratch .walked .step ≡ Step.Unit p l n
       → (nextUnit s from ≡ Found.At p l n) × (walked t s from scratch ≡ reading t p l n (unitRead t (take l (drop p s)) scratch))
+  unfolding walked
   reads-unit q =
-      let w : nextStep s from ≡ Step.Unit p l n = sym (step-of (nextStep s from)) ∙ sym (ap (λ (o : WalkOut). o .walked .step) (by-step t s from scratch)) ∙ q in
-      (found-at s from w, by-step t s from scratch ∙ ap (byStep t s scratch) w)
+      let w : nextStep s from ≡ Step.Unit p l n = sym (step-of unitRead t s scratch (nextStep s from)) ∙ q in
+      (found-at s from w, walked-at t s from scratch w)
 
   -- Y and Y′ are what stands from a unit's first byte on: the unit in Y′ has the header's bytes
   same-front : (Y Y′ : List ℕ) (l′ : ℕ) → headerBytes e (take l Y) ≤ length (take l Y) → take (headerBytes e (take l Y)) Y′ ≡ take (headerBytes e (take l Y)) Y
@@ -208,4 +203,4 @@ module _ (t : Table) (s s′ scratch scratch′ : List ℕ) (from p l n e : ℕ)
       let z = same-front (drop p s) (drop p s′) (lenOf (drop p s′)) (header-fits t u scratch e b) y more in
       let o : length (unitFrom s′ p) ≤ limit = omega (arith, length-take (lenOf (drop p s′)) (drop p s′), length-drop p s′) in
       let x = behind-same t u scratch e b (unitFrom s′ p) scratch′ z more o room ∙ ap (λ (v : UnitRead). record { answer = UnitAnswer.Slice e; header = v .header; prefix = noPrefix }) (sym r) in
-      ap (λ (v : WalkOut). v .walked) (at-unit t s′ from scratch′ small g) ∙ ap (λ (v : UnitRead). record { step = Step.Unit p (lenOf (drop p s′)) (p + upto 0 (drop p s′)); read = v }) x
+      ap (λ (v : WalkOut). v .walked) (walked-at t s′ from scratch′ (sym (step-found s′ from small g))) ∙ ap (λ (v : UnitRead). record { step = Step.Unit p (lenOf (drop p s′)) (p + upto 0 (drop p s′)); read = v }) x

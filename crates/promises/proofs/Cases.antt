@@ -33,10 +33,9 @@ use Rattle.unit.specs.declared.begin.Begun.{Begun}
 use Rattle.unit.specs.Answer.{only, sliceAnswer, prefixAnswer, sequenceAnswer, pictureAnswer}
 use Rattle.unit.specs.Begin.{typeIn, isPlain, hasExtension, extended, withExtension, typed, withHeader, begun}
 use Rattle.unit.specs.Unit.{inBody, sliceBits, prefixBits, sequenceBits, pictureBits, afterBegin, unitRead}
-use Rattle.walk.specs.declared.search.Found.{Found}
 use Rattle.walk.specs.declared.walk.Step.{Step}
-use Rattle.walk.specs.Walk.{nextUnit}
-use Rattle.walk.specs.Walked.{WalkOut, nothing, afterSearch, walked}
+use Rattle.walk.specs.Walked.{WalkOut, nextStep, nothing, Reading, stepped, walkBy}
+use Rattle.walk.proofs.Steps.{refused-over}
 use Rattle.promises.specs.Demands.{bodyLeft, leftBy, scratchAfter}
 use Rattle.promises.proofs.Numbers.{Placed, Known, header-known, prefix-known, sequence-known, picture-known}
 
@@ -57,22 +56,22 @@ Fine x = Alone x (x .answer)
 slice-fine : (m : Res SliceHeader) → Known m → Fine (sliceAnswer m)
 unfolding only
 slice-fine (got h e) k = tt
-slice-fine (no r) k = (refl, k)
+slice-fine (no r) k = (refl, rw (k .0) (k .1))
 
 prefix-fine : (m : Res Prefix) → Known m → Fine (prefixAnswer m)
 unfolding only
 prefix-fine (got p e) k = tt
-prefix-fine (no r) k = (refl, k)
+prefix-fine (no r) k = (refl, rw (k .0) (k .1))
 
 sequence-fine : (m : Res SequenceSet) → Known m → Fine (sequenceAnswer m)
 unfolding only
 sequence-fine (got v e) k = tt
-sequence-fine (no r) k = (refl, k)
+sequence-fine (no r) k = (refl, rw (k .0) (k .1))
 
 picture-fine : (m : Res PictureSet) → Known m → Fine (pictureAnswer m)
 unfolding only
 picture-fine (got v e) k = tt
-picture-fine (no r) k = (refl, k)
+picture-fine (no r) k = (refl, rw (k .0) (k .1))
 
 -- an answer without a record
 other-fine : (id : ℕ) → Fine (only (UnitAnswer.Other id))
@@ -167,7 +166,7 @@ module _ (t : Table) (unit scratch : List ℕ) where
       go (Begun.Other id) = refl
       go (Begun.Refused r) = refl
 
--- ---- a step of the walk
+-- ---- a step of a walk, whatever way units are read
 
 -- a step to no unit leaves scratch and table as they were; one that is refused is 27
 abbrev pub Idle : Table → List ℕ → WalkOut → Step → Type 0
@@ -175,15 +174,15 @@ Idle t scratch o (Step.Unit place length next) = Unit {0}
 Idle t scratch o Step.End = (o .left ≡ scratch) × (o .table ≡ t)
 Idle t scratch o (Step.Refused r) = ((o .left ≡ scratch) × (o .table ≡ t)) × (r ≡ refusal tooLarge (pos 0))
 
-module _ (t : Table) (s : List ℕ) (from : ℕ) (scratch : List ℕ) where
-  searched : (f : Found) → Idle t scratch (afterSearch t s scratch f) (afterSearch t s scratch f .walked .step)
+module _ (R : Reading) (t : Table) (s : List ℕ) (from : ℕ) (scratch : List ℕ) where
+  pub walk-idle : Idle t scratch (walkBy R nextStep t s from scratch) (walkBy R nextStep t s from scratch .walked .step)
   unfolding nothing
-  searched (Found.At place length next) = tt
-  searched Found.End = (refl, refl)
-
-  pub walk-idle : Idle t scratch (walked t s from scratch) (walked t s from scratch .walked .step)
-  unfolding walked nothing
-  walk-idle = cases (leb (length s) limit) (λ i. rw i (searched (nextUnit s from))) (λ i. rw i ((refl, refl), refl))
+  walk-idle = go (nextStep s from) refl
+    where
+      go : (k : Step) → nextStep s from ≡ k → Idle t scratch (stepped R t s scratch k) (stepped R t s scratch k .walked .step)
+      go (Step.Unit place length next) e = tt
+      go Step.End e = (refl, refl)
+      go (Step.Refused r) e = ((refl, refl), refused-over s from e .1)
 
 -- ---- the table
 

@@ -89,11 +89,13 @@ module _ (t : Table) (id : ℕ) (r : Refusal) where
 -- a step of the walk to no unit leaves scratch and table untouched; the only refusal is 27
 module _ (t : Table) (s : List ℕ) (from : ℕ) (scratch : List ℕ) where
   pub demand-1-scratch-end : walked t s from scratch .walked .step ≡ Step.End → (walked t s from scratch .left ≡ scratch) × (walked t s from scratch .table ≡ t)
-  demand-1-scratch-end e = subst (Idle t scratch (walked t s from scratch)) e (walk-idle t s from scratch)
+  unfolding walked
+  demand-1-scratch-end e = subst (Idle t scratch (walked t s from scratch)) e (walk-idle unitRead t s from scratch)
 
   pub demand-1-refused-walk : (r : Refusal) → walked t s from scratch .walked .step ≡ Step.Refused r
       → ((walked t s from scratch .left ≡ scratch) × (walked t s from scratch .table ≡ t)) × (r ≡ refusal tooLarge (pos 0))
-  demand-1-refused-walk r e = subst (Idle t scratch (walked t s from scratch)) e (walk-idle t s from scratch)
+  unfolding walked
+  demand-1-refused-walk r e = subst (Idle t scratch (walked t s from scratch)) e (walk-idle unitRead t s from scratch)
 
 -- ---- demand 2: a header that is read is what the standard's table says; it is written back to its exact bits, and what is written reads back
 
@@ -143,7 +145,7 @@ module _ (t : Table) (first : ℕ) (x : ExtensionGiven) (h : SliceHeader) (out :
 
 module _ (t : Table) (scratch s : List ℕ) (small : length s ≤ limit) where
   -- the reports are those of all units, one for each start code and in their order, each as reading that unit answers by the table that the units before it leave
-  pub demand-3-complete : reports t scratch s ≡ reportsOf t scratch (units s)
+  pub demand-3-complete : reports t scratch s ≡ reportsOf unitRead t scratch (units s)
   demand-3-complete = walk.demand-3-complete t scratch s small
 
   -- of a unit whose start code begins at i there is one report where 00 00 01 stands at i, and none elsewhere

@@ -10,3 +10,4 @@ pub mod Bound
 pub mod BoundWords
 pub mod Widths
 pub mod Sets
+pub mod Headers

@@ -21,7 +21,7 @@ use Rattle.unit.specs.Begin.{typed, begun}
 use Rattle.unit.specs.Answer.{only}
 use Rattle.unit.specs.Unit.{inBody, sliceBits, unitRead}
 use Rattle.walk.specs.Walk.{lenOf, unitAt, firstFrom, nextUnit}
-use Rattle.walk.specs.Walked.{nothing as no-unit, walked}
+use Rattle.walk.specs.Walked.{nothing as no-unit, nextStep, walked}
 use Rattle.lines.specs.Text.{decimal}
 use Rattle.lines.specs.Level.{initQp, finalQp}
 use Rattle.lines.specs.Lines.{unitLine, endLine}
@@ -30,5 +30,5 @@ use Rattle.promises.proofs.Sample.{sample-plain}
 use Rattle.promises.specs.Marked.{All, marked}
 
 pub marked-hold : All sampleTable marked
-unfolding leastFrom changeCycleWidth all readHeader header parts lead sliceType pictureSetId frame orderCount deltas activeCounts modifications notScalable modification predWeightTable weightList weight decRefPicMarking quantiser filter numberIf signedIf flagIf given operationsIf operations nothing seq shaped test when times until flag u ue se fixedAt suffixAt codeAt ueAt seOf bitsOf bytesBits digits numberOf pictureFor widthFor sequenceIdFor sequenceFor contextFor sequenceFits pictureFits sequencePut picturePut sequenceIn pictureIn sequenceEntry pictureEntry sequenceOf pictureOf sequenceMarks sequenceWords pictureMarks pictureWords toOperations pad typeOf forbiddenZeroBitOf nalRefIdc nalUnitType headerFrom headerOf kindOf typed begun inBody sliceBits unitRead lenOf unitAt firstFrom nextUnit no-unit walked decimal only initQp finalQp unitLine endLine listing
+unfolding leastFrom changeCycleWidth all readHeader header parts lead sliceType pictureSetId frame orderCount deltas activeCounts modifications notScalable modification predWeightTable weightList weight decRefPicMarking quantiser filter numberIf signedIf flagIf given operationsIf operations nothing seq shaped test when times until flag u ue se fixedAt suffixAt codeAt ueAt seOf bitsOf bytesBits digits numberOf pictureFor widthFor sequenceIdFor sequenceFor contextFor sequenceFits pictureFits sequencePut picturePut sequenceIn pictureIn sequenceEntry pictureEntry sequenceOf pictureOf sequenceMarks sequenceWords pictureMarks pictureWords toOperations pad typeOf forbiddenZeroBitOf nalRefIdc nalUnitType headerFrom headerOf kindOf typed begun inBody sliceBits unitRead lenOf unitAt firstFrom nextUnit no-unit nextStep walked decimal only initQp finalQp unitLine endLine listing
 marked-hold = subst (λ (t : Table). All t marked) (sym sample-plain) (refl, (refl, (refl, (refl, (refl, (refl, (refl, (refl, (refl, (refl, (refl, (refl, (refl, (refl, tt))))))))))))))

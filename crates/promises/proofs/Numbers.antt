@@ -32,10 +32,14 @@ use Rattle.promises.specs.Demands.{oneOf, readNumbers, bodyNumbers}
 abbrev pub Placed : Bool → ℕ → Type 0
 Placed there n = T (oneOf readNumbers n) × (there ≡ oneOf bodyNumbers n)
 
--- a value, or a refusal with such a number
+-- a refusal that arises in a body
+abbrev pub InBody : Refusal → Type 0
+InBody r = (r .«has_bit» ≡ true) × Placed true (r .number)
+
+-- a value, or such a refusal
 abbrev pub Known : {A : Type 0} → Res A → Type 0
 Known (got a e) = Unit {0}
-Known (no r) = Placed (r .«has_bit») (r .number)
+Known (no r) = InBody r
 
 after : {A B : Type 0} (m : Res A) (k : A → ℕ → Res B) → Known m → ((a : A) (e : ℕ) → Known (k a e)) → Known (bind m k)
 after (got a e) k h f = f a e
@@ -52,16 +56,16 @@ pub record Gives {A : Type 0} (F : Fmt A) : Type 0 where
 
 fixed-known : (n : ℕ) (s : Bits) (p : ℕ) → Known (fixedAt n s p)
 unfolding fixedAt
-fixed-known n s p = by-test (leb (p + n) (length s)) _ _ tt (tt, refl)
+fixed-known n s p = by-test (leb (p + n) (length s)) _ _ tt (refl, (tt, refl))
 
 suffix-known : (z : ℕ) (l : Bits) (p : ℕ) → Known (suffixAt z l p)
 unfolding suffixAt
-suffix-known z l p = by-test (leb z (length l)) _ _ tt (tt, refl)
+suffix-known z l p = by-test (leb z (length l)) _ _ tt (refl, (tt, refl))
 
 code-known : (n z : ℕ) (l : Bits) (p : ℕ) → Known (codeAt n z l p)
 unfolding codeAt
-code-known zero z l p = (tt, refl)
-code-known (suc n) z [] p = (tt, refl)
+code-known zero z l p = (refl, (tt, refl))
+code-known (suc n) z [] p = (refl, (tt, refl))
 code-known (suc n) z (false ∷ l) p = code-known n (suc z) l p
 code-known (suc n) z (true ∷ l) p = suffix-known z l p
 
@@ -101,7 +105,7 @@ shaped-gives to from ok F f = record { known = λ s at. after (F .read s at) _ (
 
 pub test-gives : {A : Type 0} (ok : A → Bool) (n : ℕ) (value : A → ℤ) (F : Fmt A) → Placed true n → Gives F → Gives (test ok n value F)
 unfolding test
-test-gives ok n value F h f = record { known = λ s at. after (F .read s at) _ (f .known s at) (λ a e. by-test (ok a) _ _ tt h) }
+test-gives ok n value F h f = record { known = λ s at. after (F .read s at) _ (f .known s at) (λ a e. by-test (ok a) _ _ tt (refl, h)) }
 
 pub when-gives : {A : Type 0} (b : Bool) (z : A) (isz : A → Bool) (F : Fmt A) → Gives F → Gives (when b z isz F)
 unfolding when
@@ -116,7 +120,7 @@ times-gives F f (suc n) =
 
 pub until-gives : {A : Type 0} (C : Fmt ℕ) (close : ℕ) (G : ℕ → Fmt A) → Gives C → ((c : ℕ) → Gives (G c)) → (n : ℕ) → Gives (until C close G n)
 unfolding until
-until-gives C close G f g zero = record { known = λ s at. after (C .read s at) _ (f .known s at) (λ c e. by-test (eqb c close) _ _ tt (tt, refl)) }
+until-gives C close G f g zero = record { known = λ s at. after (C .read s at) _ (f .known s at) (λ c e. by-test (eqb c close) _ _ tt (refl, (tt, refl))) }
 until-gives C close G f g (suc n) =
     let r = until-gives C close G f g n in
     record {
@@ -270,7 +274,7 @@ header-gives t n =
 
 pub header-known : (t : Table) (n : UnitKind) (s : Bits) → Known (readHeader t n s)
 unfolding readHeader
-header-known t n s = after (header t n .read s 0) _ (header-gives t n .known s 0) (λ h e. by-test (anySet (drop (e + 1) s)) _ _ tt (tt, refl))
+header-known t n s = after (header t n .read s 0) _ (header-gives t n .known s 0) (λ h e. by-test (anySet (drop (e + 1) s)) _ _ tt (refl, (tt, refl)))
 
 pub prefix-known : (k : PrefixKind) (s : Bits) → Known (prefix k .read s 0)
 unfolding prefix
@@ -285,10 +289,10 @@ prefix-known k s =
 -- ---- parameter sets
 
 -- 5, 6 and 28, in a body
-placed : Allows (λ (r : Refusal). Placed (r .«has_bit») (r .number))
-placed = record { out = λ p. (tt, refl); zeros = λ p. (tt, refl); field = λ p. (tt, refl) }
+placed : Allows InBody
+placed = record { out = λ p. (refl, (tt, refl)); zeros = λ p. (refl, (tt, refl)); field = λ p. (refl, (tt, refl)) }
 
-set-known : {A : Type 0} (P : A → Type 0) (m : Res A) → Ends (λ (r : Refusal). Placed (r .«has_bit») (r .number)) P m → Known m
+set-known : {A : Type 0} (P : A → Type 0) (m : Res A) → Ends InBody P m → Known m
 set-known P (got a e) h = tt
 set-known P (no r) h = h
 

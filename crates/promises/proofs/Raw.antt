@@ -1,7 +1,7 @@
 -- What unescaping does to the front of a body, and which bits stand in its first bytes: for the theorems of damage behind the header.
 use Prim.Native.Nat.{ℕ, zero, suc, _+_, _-_, _*_, _≤_, _<_}
 use mathlib.Core.Path.{_≡_, refl, sym, ap, _∙_}
-use mathlib.Core.List.{List, [], _∷_, _++_, append-assoc}
+use mathlib.Core.List.{List, [], _∷_, _++_}
 use mathlib.Core.Bool.{Bool, true, false}
 use native.Mathlib.Omega.{arith}
 use native.Mathlib.Decide.{decLe}
@@ -9,9 +9,9 @@ use native.Mathlib.Nat.{sub-zero, zero-sub, suc-sub-suc}
 use lib.ListN.{length, take, drop, take-append-drop, drop-of-length-le}
 use lib.Seq.{take-append-le, take-all, take-nil, length-take-le}
 use Rattle.bits.specs.Refusals.{pick}
-use Rattle.bits.specs.Bits.{Bits, digits, bytesBits}
+use Rattle.bits.specs.Bits.{bytesBits}
 use Rattle.bits.specs.Put.{bytesFor}
-use Rattle.bits.proofs.Slices.{length-bytes}
+use Rattle.bits.proofs.Slices.{length-bytes, bytes-append}
 use Rattle.syntax.specs.SliceHeader.{anySet}
 use Rattle.escape.specs.Body.{drops, zeros, body}
 use Rattle.promises.specs.Behind.{rawBytes}
@@ -62,11 +62,6 @@ raw-le z (suc n) (a ∷ r) = go (drops z a) (raw-le 0 (suc n) r) (raw-le (zeros 
     go false h l = omega arith
 
 -- ---- bits
-
-bytes-append : (x y : List ℕ) → bytesBits (x ++ y) ≡ bytesBits x ++ bytesBits y
-unfolding bytesBits
-bytes-append [] y = refl
-bytes-append (b ∷ x) y = ap (λ (s : Bits). digits 8 b ++ s) (bytes-append x y) ∙ sym (append-assoc (digits 8 b) (bytesBits x) (bytesBits y))
 
 -- the first e bits stand in the first bytes
 front-bits : (n e : ℕ) (x : List ℕ) → e ≤ 8 * n → take e (bytesBits (take n x)) ≡ take e (bytesBits x)

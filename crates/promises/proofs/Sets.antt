@@ -4,12 +4,10 @@ use mathlib.Core.Path.{_≡_, refl, sym, ap, subst, _∙_}
 use mathlib.Core.List.{List, [], _∷_, _++_}
 use mathlib.Core.Bool.{true, _&&_}
 use lib.Dec.{leb}
-use lib.IntN.{pos}
 use lib.ListN.{length, drop}
 use borrow.Author.Tests.{le-leb}
 use Rattle.bits.specs.Refusals.{Res, got, no}
 use Rattle.bits.specs.Bits.{Bits, bytesBits}
-use Rattle.bits.specs.declared.refusals.Refusal.{Refusal}
 use Rattle.bits.proofs.Results.{cases}
 use Rattle.escape.specs.Body.{body}
 use Rattle.table.specs.declared.table.Table.{Table}
@@ -33,11 +31,10 @@ use Rattle.unit.specs.declared.begin.Begun.{Begun}
 use Rattle.unit.specs.Answer.{only, sliceAnswer, prefixAnswer, sequenceAnswer, pictureAnswer}
 use Rattle.unit.specs.Begin.{begun}
 use Rattle.unit.specs.Unit.{inBody, sliceBits, prefixBits, sequenceBits, pictureBits, afterBegin, unitRead}
-use Rattle.walk.specs.declared.walk.Step.{Step}
 use Rattle.walk.specs.Units.{Report}
-use Rattle.walk.specs.Walked.{WalkOut, tableAfter, nextStep, nothing, walked}
+use Rattle.walk.specs.Walked.{tableAfter, nextStep, walked}
 use Rattle.walk.specs.Reports.{tableBy}
-use Rattle.walk.proofs.Steps.{byStep, by-step}
+use Rattle.walk.proofs.Steps.{table-of}
 use Rattle.promises.specs.Demands.{bodyBits}
 use Rattle.promises.specs.Sets.{changeOf, changesIn}
 
@@ -114,13 +111,8 @@ module _ (t : Table) (unit scratch : List ℕ) where
 module _ (t : Table) (s : List ℕ) (from : ℕ) (scratch : List ℕ) where
   -- a step's table is that after the unit's answer: a set that was read is put, a refused one leaves the table
   pub sets-kept : walked t s from scratch .table ≡ tableAfter t (walked t s from scratch .walked .read .answer)
-  unfolding nothing only
-  sets-kept = rw (by-step t s from scratch) (go (nextStep s from))
-    where
-      go : (k : Step) → byStep t s scratch k .table ≡ tableAfter t (byStep t s scratch k .walked .read .answer)
-      go (Step.Unit p l n) = refl
-      go Step.End = refl
-      go (Step.Refused r) = refl
+  unfolding walked
+  sets-kept = table-of unitRead t s scratch (nextStep s from)
 
 -- ---- a walk's tables are made by puts, so that their widths are true (`widths-true`)
 

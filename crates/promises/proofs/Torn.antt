@@ -31,7 +31,7 @@ use Rattle.unit.specs.Answer.{only}
 use Rattle.unit.specs.Unit.{inBody, sliceBits, unitRead}
 use Rattle.walk.specs.declared.walk.Step.{Step}
 use Rattle.walk.specs.Walk.{lenOf, unitAt, firstFrom, nextUnit}
-use Rattle.walk.specs.Walked.{Walked, nothing as no-unit, walked}
+use Rattle.walk.specs.Walked.{Walked, nothing as no-unit, nextStep, walked}
 use Rattle.promises.proofs.Sample.{sample-plain}
 use Rattle.promises.specs.Demands.{bodyOf}
 use Rattle.promises.specs.Behind.{headerBytes, moreBehind, unitFrom}
@@ -98,5 +98,5 @@ Shown t =
     × (walksBy t cut ≡ record { step = Step.Unit 3 4 7; read = only (UnitAnswer.Refused (refusalAt 5 (pos 0) 18)) })))))))))))))))
 
 pub torn-shown : Shown sampleTable
-unfolding leastFrom changeCycleWidth all readHeader header parts lead sliceType pictureSetId frame orderCount deltas activeCounts modifications notScalable modification predWeightTable weightList weight decRefPicMarking quantiser filter numberIf signedIf flagIf given operationsIf operations nothing seq shaped test when times until flag u ue se fixedAt suffixAt codeAt ueAt seOf bytesBits digits numberOf pictureFor widthFor sequenceIdFor sequenceFor contextFor sequenceFits pictureFits sequencePut picturePut sequenceIn pictureIn sequenceEntry pictureEntry sequenceOf pictureOf sequenceMarks sequenceWords pictureMarks pictureWords toOperations pad typeOf forbiddenZeroBitOf nalRefIdc nalUnitType headerFrom headerOf kindOf typed begun inBody sliceBits unitRead lenOf unitAt firstFrom nextUnit no-unit walked only
+unfolding leastFrom changeCycleWidth all readHeader header parts lead sliceType pictureSetId frame orderCount deltas activeCounts modifications notScalable modification predWeightTable weightList weight decRefPicMarking quantiser filter numberIf signedIf flagIf given operationsIf operations nothing seq shaped test when times until flag u ue se fixedAt suffixAt codeAt ueAt seOf bytesBits digits numberOf pictureFor widthFor sequenceIdFor sequenceFor contextFor sequenceFits pictureFits sequencePut picturePut sequenceIn pictureIn sequenceEntry pictureEntry sequenceOf pictureOf sequenceMarks sequenceWords pictureMarks pictureWords toOperations pad typeOf forbiddenZeroBitOf nalRefIdc nalUnitType headerFrom headerOf kindOf typed begun inBody sliceBits unitRead lenOf unitAt firstFrom nextUnit no-unit nextStep walked only
 torn-shown = subst Shown (sym sample-plain) (refl, (refl, (refl, (refl, (refl, (refl, (refl, (refl, (refl, (refl, (refl, (refl, (refl, (refl, (refl, refl)))))))))))))))

@@ -10,5 +10,7 @@ pub mod Within
 pub mod Resync
 pub mod Border
 pub mod State
+pub mod Reports
 pub mod Demand
+pub mod HeadersAlone
 pub mod Examples

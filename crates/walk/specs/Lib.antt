@@ -3,3 +3,4 @@ pub mod Walked
 pub mod WalkedInto
 pub mod Units
 pub mod Reports
+pub mod Headers

@@ -8,10 +8,9 @@ use Rattle.bits.specs.Refusals.{pick}
 use Rattle.table.specs.declared.table.Table.{Table}
 use Rattle.unit.specs.declared.answer.UnitAnswer.{UnitAnswer}
 use Rattle.unit.specs.declared.answer.UnitRead.{UnitRead}
-use Rattle.unit.specs.Unit.{unitRead}
 use Rattle.walk.specs.declared.walk.Step.{Step}
 use Rattle.walk.specs.Units.{Report, Span}
-use Rattle.walk.specs.Walked.{WalkOut, tableAfter, walked}
+use Rattle.walk.specs.Walked.{WalkOut, tableAfter, Reading, Walking, walked}
 
 -- the report of a step, and those of the steps from where it says to go on
 abbrev pub onward : Step → UnitRead → (ℕ → List (Report UnitRead)) → List (Report UnitRead)
@@ -22,22 +21,25 @@ onward (Step.Refused r) read rest = []
 abbrev pub andOn : WalkOut → (Table → ℕ → List ℕ → List (Report UnitRead)) → List (Report UnitRead)
 andOn out rest = onward (out .walked .step) (out .walked .read) (λ next. rest (out .table) next (out .left))
 
--- at most f steps over the recording s, the first from `from`; each is lent table and scratch as the one before left them
-abbrev pub reportsBy : ℕ → List ℕ → Table → ℕ → List ℕ → List (Report UnitRead)
-reportsBy zero s t from scratch = []
-reportsBy (suc f) s t from scratch = andOn (walked t s from scratch) (reportsBy f s)
+-- at most f steps of a walk over the recording s, the first from `from`; each is lent table and scratch as the one before left them
+abbrev pub reportsBy : Walking → ℕ → List ℕ → Table → ℕ → List ℕ → List (Report UnitRead)
+reportsBy walk zero s t from scratch = []
+reportsBy walk (suc f) s t from scratch = andOn (walk t s from scratch) (reportsBy walk f s)
 
 -- all reports of the recording s: it has no more units than bytes
+abbrev pub reportsIn : Walking → Table → List ℕ → List ℕ → List (Report UnitRead)
+reportsIn walk t scratch s = reportsBy walk (length s) s t 0 scratch
+
 abbrev pub reports : Table → List ℕ → List ℕ → List (Report UnitRead)
-reports t scratch s = reportsBy (length s) s t 0 scratch
+reports t scratch s = reportsIn walked t scratch s
 
 -- ---- the reports of a list of units: each is read by the table that those before it leave
 
-abbrev pub reportsOf : Table → List ℕ → List Span → List (Report UnitRead)
-reportsOf t scratch [] = []
-reportsOf t scratch (u ∷ us) =
-    let r = unitRead t (u .read) scratch .read in
-    record { place = u .place; size = u .size; next = u .next; read = r } ∷ reportsOf (tableAfter t (r .answer)) scratch us
+abbrev pub reportsOf : Reading → Table → List ℕ → List Span → List (Report UnitRead)
+reportsOf R t scratch [] = []
+reportsOf R t scratch (u ∷ us) =
+    let r = R t (u .read) scratch .read in
+    record { place = u .place; size = u .size; next = u .next; read = r } ∷ reportsOf R (tableAfter t (r .answer)) scratch us
 
 -- ---- parts of a list of reports
 
@@ -76,8 +78,11 @@ tableBy t [] = t
 tableBy t (u ∷ us) = tableBy (tableAfter t (u .read .answer)) us
 
 -- the table with which a walk over the recording s comes to the place k
+abbrev pub tableIn : Walking → Table → List ℕ → List ℕ → ℕ → Table
+tableIn walk t scratch s k = tableBy t (startsBefore k (reportsIn walk t scratch s))
+
 abbrev pub tableAt : Table → List ℕ → List ℕ → ℕ → Table
-tableAt t scratch s k = tableBy t (startsBefore k (reports t scratch s))
+tableAt t scratch s k = tableIn walked t scratch s k
 
 -- a report with its places counted from the recording's end, which is n
 abbrev pub toEnd : {A : Type 0} → ℕ → Report A → Report A

@@ -53,13 +53,23 @@ abbrev pub reading : Table → ℕ → ℕ → ℕ → UnitOut → WalkOut
 reading t place size next u =
     record { walked = record { step = Step.Unit place size next; read = u .read }; left = u .left; table = tableAfter t (u .read .answer) }
 
--- a unit is read; at the end scratch and table are as they were
-abbrev pub afterSearch : Table → List ℕ → List ℕ → Found → WalkOut
-afterSearch t recording scratch (Found.At place size next) = reading t place size next (unitRead t (take size (drop place recording)) scratch)
-afterSearch t recording scratch Found.End = record { walked = nothing Step.End; left = scratch; table = t }
+-- how a unit is read: by a table, and with a scratch
+abbrev pub Reading : Type 0
+Reading = Table → List ℕ → List ℕ → UnitOut
 
--- 27 first
-unfoldable pub walked : Table → List ℕ → ℕ → List ℕ → WalkOut
-walked t recording from scratch =
-    pick (leb (length recording) limit) (afterSearch t recording scratch (nextUnit recording from))
-    (record { walked = nothing (Step.Refused (refusal tooLarge (pos 0))); left = scratch; table = t })
+-- what a step answers: a unit is read, else nothing is, and scratch and table are as they were
+abbrev pub stepped : Reading → Table → List ℕ → List ℕ → Step → WalkOut
+stepped R t recording scratch (Step.Unit place size next) = reading t place size next (R t (take size (drop place recording)) scratch)
+stepped R t recording scratch Step.End = record { walked = nothing Step.End; left = scratch; table = t }
+stepped R t recording scratch (Step.Refused r) = record { walked = nothing (Step.Refused r); left = scratch; table = t }
+
+-- a walk over recordings, asked from any place: it steps to a unit as `next` says, and reads it by R
+abbrev pub Walking : Type 0
+Walking = Table → List ℕ → ℕ → List ℕ → WalkOut
+
+abbrev pub walkBy : Reading → (List ℕ → ℕ → Step) → Walking
+walkBy R next t recording from scratch = stepped R t recording scratch (next recording from)
+
+-- the walk
+unfoldable pub walked : Walking
+walked t recording from scratch = walkBy unitRead nextStep t recording from scratch

@@ -2,25 +2,19 @@
 // answer says to go on, it meets every unit once.
 use crate::search::Found;
 use crate::search::next_unit;
+use crate::turn::body_in_turn;
 use bits::refusals::LIMIT;
 use bits::refusals::Refusal;
 use bits::refusals::TOO_LARGE;
 use bits::refusals::refuse;
-use table::words::put_picture_in;
-use table::words::put_sequence_in;
-use unit::head::HeadRead;
-use unit::head::head;
 use unit::into::ShortAnswer;
-use unit::into::clear_words;
-use unit::into::read_body_into;
 ghost use mathlib.Core.Path.{_≡_};
 ghost use Rattle.header.specs.Lead.{tableOf};
-ghost use Rattle.walk.specs.Walked.{nextStep, tableAfter, walked};
-ghost use Rattle.unit.specs.Unit.{unitRead};
-ghost use Rattle.unit.specs.Into.{longAnswer, lentWords, ReadInto};
+ghost use Rattle.unit.specs.Into.{lentWords};
+ghost use Rattle.walk.specs.Walked.{nextStep, walked};
 ghost use Rattle.walk.specs.WalkedInto.{WalkedInto};
 
-// What the walk came to: a unit's place, its length and the place to go on from; the end; or refusal 27.
+// What a step came to: a unit's place, its length and the place to go on from; the end; or a refusal (27; in a recording framed by length also 29).
 pub enum Step {
     Unit(usize, usize, usize),
     End,
@@ -50,67 +44,7 @@ pub fn next_step(recording: &[u8], from: usize) -> Step
     }
 }
 
-// A unit's head and then its body. Scratch and words are left as `read_body_into` leaves them; beside a refused head scratch is untouched, and all words are zeros.
-fn in_turn<'a>(
-    sequences: &'a [u32; 224],
-    pictures: &'a [u32; 2304],
-    unit: &[u8],
-    scratch: &mut [u8],
-    numbers: &mut [u32; 57],
-    signed: &mut [i32; 7],
-    l0: &mut [u32; 198],
-    l1: &mut [u32; 198],
-    marking: &mut [u32; 198],
-    w0: &mut [i32; 256],
-    w1: &mut [i32; 256],
-    base: &mut [u32; 198],
-) -> ShortAnswer
-    ensures { λ r. ⌜ ReadInto (unitRead (tableOf (now (sequences .entry)) (now (pictures .entry))) (now (unit .entry)) (now (scratch .entry))) r (now (scratch .exit)) (lentWords numbers signed l0 l1 marking w0 w1 base .entry) (lentWords numbers signed l0 l1 marking w0 w1 base .exit) ⌝ }
-{
-    match head(unit) {
-        HeadRead::Got(h) => read_body_into(
-            h,
-            sequences,
-            pictures,
-            unit,
-            scratch,
-            numbers,
-            signed,
-            l0,
-            l1,
-            marking,
-            w0,
-            w1,
-            base,
-        ),
-        HeadRead::Refused(r) => {
-            clear_words(numbers, signed, l0, l1, marking, w0, w1, base);
-            ShortAnswer::Refused(r)
-        }
-    }
-}
-
-// A set that was read goes into the table. It is within the rules' sizes, so no put of one is refused (`sets-sequence-put` and `sets-picture-put` of promises).
-fn keep_set(sequences: &mut [u32; 224], pictures: &mut [u32; 2304], answer: ShortAnswer)
-    ensures { λ _. ⌜ tableOf (now (sequences .exit)) (now (pictures .exit)) ≡ tableAfter (tableOf (now (sequences .entry)) (now (pictures .entry))) (longAnswer answer) ⌝ }
-{
-    match answer {
-        ShortAnswer::Sequence(v) => {
-            let s = v.sequence;
-            put_sequence_in(sequences, pictures, v.seq_parameter_set_id, s);
-        }
-        ShortAnswer::Picture(v) => {
-            let p = v.picture;
-            put_picture_in(sequences, pictures, v.pic_parameter_set_id, p);
-        }
-        ShortAnswer::Slice(_) => {}
-        ShortAnswer::Prefix(_) => {}
-        ShortAnswer::Other(_) => {}
-        ShortAnswer::Refused(_) => {}
-    }
-}
-
-// One step, by the sets in a table's two arrays, which a set that is read changes. Scratch and words are left as `in_turn` leaves them; where the step comes to no
+// One step, by the sets in a table's two arrays, which a set that is read changes. Scratch and words are left as `body_in_turn` leaves them; where the step comes to no
 // unit, all are untouched.
 pub fn walk_into(
     sequences: &mut [u32; 224],
@@ -137,7 +71,7 @@ pub fn walk_into(
         };
     };
     let end = place + length;
-    let answer = in_turn(
+    let answer = body_in_turn(
         sequences,
         pictures,
         &recording[place..end],
@@ -151,6 +85,5 @@ pub fn walk_into(
         w1,
         base,
     );
-    keep_set(sequences, pictures, answer);
     WalkedShort { step, answer }
 }

@@ -1,21 +1,21 @@
 -- Copying out: the bytes of bits that were put at the front of one buffer, at the front of another, are the bits put there.
 use Prim.Native.Nat.{ℕ, suc, _+_, _*_, _/_, _%_, _≤_, _<_}
 use mathlib.Core.Path.{_≡_, refl, sym, ap, ap₂, _∙_}
-use mathlib.Core.List.{List, [], _∷_, _++_, append-assoc}
+use mathlib.Core.List.{List, [], _∷_, _++_}
 use mathlib.Core.Bool.{Bool, true}
 use native.Mathlib.Omega.{arith}
 use native.Mathlib.Nat.{add-zero, zero-add}
 use native.Mathlib.Decide.{ℕ-discrete, decLe}
-use native.Mathlib.Numerals.{add-one}
 use borrow.Author.Tests.{le-leb, lt-leb}
 use lib.ListN.{length, getD, set, take, drop, length-set, take-append-drop}
-use lib.Seq.{take-take, take-suc-set, getD-take, length-take-le, take-suc, drop-cons, set-at}
+use lib.Seq.{take-take, take-suc-set, getD-take, length-take-le, take-length}
 use Rattle.bits.specs.Bits.{Bits, bitsOf}
 use Rattle.bits.specs.Put.{putBit, putBits, written, bytesFor}
 use Rattle.bits.proofs.Puts.{length-put, put-after}
 use Rattle.escape.specs.Body.{startWith}
-use Rattle.writer.specs.declared.write.HeaderWrote.{HeaderWrote}
 use Rattle.writer.specs.Write.{outOf}
+use Rattle.bits.specs.Copy as copy
+use Rattle.bits.proofs.Copies.{copied-all}
 use Rattle.writer.specs.Stages.{copied}
 use Rattle.writer.proofs.Room.{room-bits, no-room}
 
@@ -74,12 +74,8 @@ copied-written a l out s ha = go (decLe (bytesFor (length l)) (length out))
     go (no r) =
         rw (lt-leb (bytesFor (length l)) (length out) (omega arith), zero-add (length l), lt-leb (length l) (length (bitsOf out)) (no-room out (length l) (omega arith)))
 
--- a turn of the loop
-pub copied-one : (d out₀ : List ℕ) (i : ℕ) → i < length d → i < length out₀ → set (take i d ++ drop i out₀) i (getD d i 0) ≡ take (i + 1) d ++ drop (i + 1) out₀
-copied-one d out₀ i hd ho =
-    rw (add-one i, drop-cons out₀ i 0 ho, take-suc d i 0 hd, append-assoc)
-    (set-at (take i d) (getD out₀ i 0) (drop (suc i) out₀) (getD d i 0) i (length-take-le i d (omega arith)))
-
--- and its end
-pub copied-all : (d out₀ out : List ℕ) (i m : ℕ) → i ≡ m → m ≤ length d → out ≡ take i d ++ drop i out₀ → out ≡ startWith (take m d) out₀
-copied-all d out₀ out i m e h q = rw (length-take-le m d h, ← e) q
+-- the first m bytes of d, copied to the front
+pub copied-front : (d out : List ℕ) (m : ℕ) → m ≤ length d → m ≤ length out → copy.copied (take m d) out 0 ≡ startWith (take m d) out
+copied-front d out m hd ho =
+    let n : length (take m d) ≡ m = length-take-le m d hd in
+    copied-all (take m d) out 0 (omega arith) ∙ ap (λ (s : List ℕ). s ++ drop (0 + length (take m d)) out) (take-length (take m d)) ∙ ap (λ (k : ℕ). take m d ++ drop k out) (zero-add (length (take m d)))

@@ -9,6 +9,7 @@ use crate::sets::SetsFor;
 use crate::sets::sets_for;
 use crate::sets::why_sets;
 use crate::whole::put_header;
+use bits::copy::copy_in;
 use bits::refusals::BUFFER_TOO_SHORT;
 use bits::refusals::NO_BITS;
 use bits::refusals::Refusal;
@@ -41,11 +42,7 @@ fn copy_out(d: &[u8], n: usize, out: &mut [u8]) -> HeaderWrote
     if out.len() < m {
         return HeaderWrote::Refused(refuse(BUFFER_TOO_SHORT, m as i64));
     }
-    let mut i: usize = 0;
-    while i < m {
-        out[i] = d[i];
-        i += 1;
-    }
+    copy_in(&d[..m], out, 0);
     HeaderWrote::Bits(n)
 }
 

@@ -11,10 +11,10 @@ returns : tie.Need-returns
 returns c = let a = c .before .before .before .before .before .args in rw (turn-long (tableOf (a .sequences .now) (a .pictures .now)) (a .recording .now) (a .state) (a .scratch .now) (omega arith)) (ends (c .too-long .ensures) _ _)
 
 add-end : tie.Need-add-end
-add-end c = let a = c .before .before .before .before .before .before .before .before .before .before .before .before .args in record { fits = omega (arith, inside (tableOf (a .sequences .now) (a .pictures .now)) (a .recording .now) (a .state .from) (a .scratch .now) (omega arith) (c .before .before .before .before .before .walk-on .ensures) (c .before .step .given .1)) }
+add-end c = let a = c .before .before .before .before .before .before .before .before .before .before .before .before .args in record { fits = omega (arith, inside (tableOf (a .sequences .now) (a .pictures .now)) (a .recording .now) (a .state .from) (a .scratch .now) (c .before .before .before .before .before .walk-on .ensures) (c .before .step .given .1)) }
 
 part-unit-end : tie.Need-part-unit-end
-part-unit-end c = let a = c .before .before .before .before .before .before .before .before .before .before .before .before .before .before .args in inside (tableOf (a .sequences .now) (a .pictures .now)) (a .recording .now) (a .state .from) (a .scratch .now) (omega arith) (c .before .before .before .before .before .before .before .walk-on .ensures) (c .before .before .before .step .given .1)
+part-unit-end c = let a = c .before .before .before .before .before .before .before .before .before .before .before .before .before .before .args in inside (tableOf (a .sequences .now) (a .pictures .now)) (a .recording .now) (a .state .from) (a .scratch .now) (c .before .before .before .before .before .before .before .walk-on .ensures) (c .before .before .before .step .given .1)
 
 enum-told : tie.Need-enum-told
 enum-told c = search needs

@@ -1,12 +1,7 @@
-use mathlib.Core.Path.{refl, sym, ap, _∙_}
+use mathlib.Core.Path.{sym, _∙_}
 use native.Mathlib.Omega.{arith}
-use Rattle.header.specs.Lead.{tableOf}
-use Rattle.unit.specs.Answer.{only}
-use Rattle.unit.specs.Into.{shortAnswer, wordsAfter}
-use Rattle.walk.specs.Walked.{nothing, tableAfter}
 use Rattle.walk.proofs.Chain.{Went, went}
-use Rattle.walk.proofs.Kept.{long-short}
-use Rattle.walk.proofs.Steps.{found-at, none-read, was-read}
+use Rattle.walk.proofs.Steps.{found-at, walked-at, none-into, unit-into}
 use borrow.Author.Needs.{needs}
 use Rattle.walk.proofs.walk.walk_into.Statement.{statement}
 use Rattle.walk.proofs.walk.walk_into.Tie as tie
@@ -16,20 +11,16 @@ found : (c : tie.After-step) → let a = c .before .before .before .before .befo
 found c = went _ _ _ _ _ (found-at _ _ (sym (c .before .before .next-step .ensures) ∙ c .step .given .1))
 
 returns : tie.Need-returns
-unfolding nothing only shortAnswer wordsAfter
-returns c = rw (none-read _ _ _ _ (c .before .next-step .ensures) (c .match .keys2)) (record { step = refl; answered = refl; left = refl; table = refl; words = refl })
+returns c = rw (walked-at _ _ _ _ (sym (c .before .next-step .ensures))) (none-into _ _ _ _ _ (c .match .keys2) _)
 
 add-end : tie.Need-add-end
 add-end c = let w = found (c .before) in omega arith
 
-part-in-turn-end : tie.Need-part-in-turn-end
-part-in-turn-end c = let w = found (c .before .before .before) in omega arith
+part-body-in-turn-end : tie.Need-part-body-in-turn-end
+part-body-in-turn-end c = let w = found (c .before .before .before) in omega arith
 
 returns-2 : tie.Need-returns-2
-returns-2 c =
-    let g = c .before .before .before .before .before .in-turn .ensures in
-    rw (was-read _ _ _ _ (sym (c .before .before .before .before .before .before .before .before .before .before .before .before .before .before .before .before .before .before .before .before .before .next-step .ensures) ∙ c .before .before .before .before .before .before .before .before .before .before .before .before .before .before .before .before .before .before .before .step .given .1))
-    (record { step = refl; answered = g .answered; left = g .left; table = long-short _ _ (g .answered) (c .keep-set .ensures); words = g .words })
+returns-2 c = rw (walked-at _ _ _ _ (sym (c .before .before .before .before .before .before .before .before .before .before .before .before .before .before .before .before .before .before .next-step .ensures) ∙ c .before .before .before .before .before .before .before .before .before .before .before .before .before .before .before .before .step .given .1)) (unit-into _ _ _ _ (c .before .before .body-in-turn .ensures))
 
 pub walk-into-spec : {M : Type 1} → statement M
 walk-into-spec =
@@ -41,8 +32,7 @@ walk-into-spec =
     add-end
     (λ c. search needs)
     (λ c. search needs)
-    part-in-turn-end
-    (λ c κs. search needs)
+    part-body-in-turn-end
     (λ c κs. search needs)
     (λ c. search needs)
     returns-2)

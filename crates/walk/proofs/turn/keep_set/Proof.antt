@@ -1,8 +1,8 @@
 use mathlib.Core.Path.{ap₂}
 use borrow.Author.Needs.{needs}
 use Rattle.header.specs.Lead.{tableOf}
-use Rattle.walk.proofs.walk.keep_set.Statement.{statement}
-use Rattle.walk.proofs.walk.keep_set.Tie as tie
+use Rattle.walk.proofs.turn.keep_set.Statement.{statement}
+use Rattle.walk.proofs.turn.keep_set.Tie as tie
 
 enum-told : tie.Need-enum-told
 enum-told c = search needs

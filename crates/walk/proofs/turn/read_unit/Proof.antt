@@ -3,8 +3,8 @@ use Rattle.header.specs.Lead.{tableOf}
 use Rattle.unit.proofs.Held.{refused-into}
 use Rattle.unit.proofs.Pair.{head-given, head-refused}
 use borrow.Author.Needs.{needs}
-use Rattle.walk.proofs.walk.in_turn.Statement.{statement}
-use Rattle.walk.proofs.walk.in_turn.Tie as tie
+use Rattle.walk.proofs.turn.read_unit.Statement.{statement}
+use Rattle.walk.proofs.turn.read_unit.Tie as tie
 
 returns : tie.Need-returns
 returns c =
@@ -19,8 +19,8 @@ returns-2 c =
     (head-refused (tableOf (a .sequences .now) (a .pictures .now)) (a .unit .now) (a .scratch .now) (sym (c .before .before .before .before .before .before .before .before .before .before .before .before .head .ensures) ∙ c .before .before .before .before .before .before .before .before .before .before .r .given .1)) _
     (c .clear-words .ensures)
 
-pub in-turn-spec : {M : Type 1} → statement M
-in-turn-spec =
+pub read-unit-spec : {M : Type 1} → statement M
+read-unit-spec =
     tie.close
     (tie.spec
     (λ c κs. search needs)
