@@ -14,7 +14,7 @@ import tempfile
 
 from promises import ROOT, functions, plain
 
-THEOREMS = {"Demands": "demand-", "Behind": "behind-", "Bound": "bound-", "Widths": "widths-", "Sets": "sets-", "Headers": "headers-"}  # files of crates/promises/proofs, and how the theorems for signers begin
+THEOREMS = {"Demands": "demand-", "Behind": "behind-", "Bound": "bound-", "Widths": "widths-", "Sets": "sets-", "Headers": "headers-", "Exposures": "exposures-"}  # files of crates/promises/proofs, and how the theorems for signers begin
 MODULE = re.compile(r"Rattle·(\w+)(?:·\w+)?\.(specs|proofs)\.([\w.]+)$")
 USE = re.compile(r"^(?:ghost )?use (\S+?)(?:\.\{([^}]*)\}|(?: as (\S+?))?);?$", re.M | re.S)
 SIGNATURE = re.compile(r"^( *)((?:(?:abbrev|unfoldable|pub) )*)(record |data )?(«?[^\s(){}:«»]+»?)(?= .*:| *:|$)")
@@ -156,6 +156,7 @@ TRIED = {
     "crates/promises/proofs/Widths.antt": "use Rattle.c.specs.Late.{late}\n\npub widths-z : (n : ℕ) → late n ≡ n\nwidths-z n = refl\n",
     "crates/promises/proofs/Sets.antt": "use Rattle.c.specs.Late.{late}\n\npub sets-z : (n : ℕ) → late n ≡ n\nsets-z n = refl\n",
     "crates/promises/proofs/Headers.antt": "use Rattle.c.specs.Late.{late}\n\npub headers-z : (n : ℕ) → late n ≡ n\nheaders-z n = refl\n",
+    "crates/promises/proofs/Exposures.antt": "use Rattle.c.specs.Late.{late}\n\npub exposures-z : (n : ℕ) → late n ≡ n\nexposures-z n = refl\n",
     "crates/promises/specs/Lib.antt": "",
     "crates/a/specs/Top.antt": "use Rattle.a.specs.Deep.{Pair, pair}\nuse Rattle.b.specs.All as all\nuse Rattle.a.specs.Unused.{unused}\n\nabbrev pub top : ℕ → ℕ\ntop n = all.all (pair n)\n\nabbrev pub second : ℕ → ℕ\nsecond n = unused n\n",
     "crates/a/specs/Deep.antt": "pub data Pair : Type 0 where\n  -- two\n  pair : ℕ → Pair\n",
@@ -178,7 +179,7 @@ def tried():
         theorems, deep = tree.theorems(), {".".join(m) for m in tree.reached()}
         tree.contracts()
         all_of = {".".join(m) for m in tree.reached()}
-    if theorems != ["demand-1-x", "behind-y", "bound-z", "widths-z", "sets-z", "headers-z"] or deep != {"a.specs.Top", "a.specs.Deep", "b.specs.All", "c.specs.Late", "c.specs.Most"} or all_of - deep != {"a.specs.Unused"}:
+    if theorems != ["demand-1-x", "behind-y", "bound-z", "widths-z", "sets-z", "headers-z", "exposures-z"] or deep != {"a.specs.Top", "a.specs.Deep", "b.specs.All", "c.specs.Late", "c.specs.Most"} or all_of - deep != {"a.specs.Unused"}:
         sys.exit(f"believed: tried on a small tree, it finds {theorems}, {sorted(deep)} and {sorted(all_of - deep)}")
 
 

@@ -1,10 +1,10 @@
 -- Units at other places have the same exposures at other places: pictures do not go by places.
-use Prim.Native.Nat.{ℕ}
-use mathlib.Core.Path.{_≡_, refl, ap, _∙_}
+use Prim.Native.Nat.{ℕ, zero, suc}
+use mathlib.Core.Path.{_≡_, refl, sym, ap, _∙_}
 use mathlib.Core.Bool.{Bool, true, false}
 use mathlib.Core.List.{List, [], _∷_, _++_, map, map-append}
 use lib.IntN.{ℤ}
-use lib.ListN.{length, length-map}
+use lib.ListN.{length, drop, length-map}
 use Rattle.bits.specs.Refusals.{pick}
 use Rattle.exposures.specs.declared.slice.Slice.{Slice}
 use Rattle.exposures.specs.declared.slice.Kind.{Kind}
@@ -12,8 +12,14 @@ use Rattle.exposures.specs.declared.slice.Item.{Item}
 use Rattle.exposures.specs.declared.exposure.Exposure.{Exposure}
 use Rattle.exposures.specs.Compare.{frames, fields, references, counts0, counts1, idrs, differ, gapAfter}
 use Rattle.exposures.specs.Exposure.{lesser, greater, plus, over, exposureOf}
-use Rattle.exposures.specs.Pictures.{slicesOf, same, those, Picture, restOf, Cut, joined, cut, refusedIn, gapTo, exposuresFrom, exposures}
+use Rattle.exposures.specs.Pictures.{slicesOf, lastOf, same, those, Picture, restOf, Cut, joined, cut, refusedIn, gapTo, exposuresFrom, exposures}
+use Rattle.exposures.specs.Torn.{joins, goesOn, begunIn}
 use Rattle.exposures.specs.Moved.{moveSlice, moveItem, moveExposure}
+
+pub drop-map : {A B : Type 0} (f : A → B) (n : ℕ) (l : List A) → map f (drop n l) ≡ drop n (map f l)
+drop-map f zero l = refl
+drop-map f (suc n) [] = refl
+drop-map f (suc n) (x ∷ l) = drop-map f n l
 
 module _ (f : ℕ → ℕ) where
   abbrev movePicture : Picture → Picture
@@ -77,3 +83,21 @@ module _ (f : ℕ → ℕ) where
   pub exposures-moved : (l : List Item) → exposures (map (moveItem f) l) ≡ map (moveExposure f) (exposures l)
   unfolding exposures
   exposures-moved l = rw (cut-moved l, those-moved Kind.Refused (cut l .lead)) (all-moved false (refusedIn (cut l .lead)) (cut l .pictures))
+
+  -- so has the part that begins behind another list
+  pub begun-moved : (X S : List Item) → begunIn (map (moveItem f) X) (map (moveItem f) S) ≡ map (moveExposure f) (begunIn X S)
+  begun-moved X S =
+      rw (← map-append (moveItem f) X S, exposures-moved X, exposures-moved (X ++ S), length-map (exposures X) (moveExposure f)) (sym (drop-map (moveExposure f) (length (exposures X)) (exposures (X ++ S))))
+
+  last-moved : (a : Slice) (l : List Slice) → lastOf (moveSlice f a) (map (moveSlice f) l) ≡ moveSlice f (lastOf a l)
+  last-moved a [] = refl
+  last-moved a (b ∷ l) = last-moved b l
+
+  -- and it goes on with that list where it did
+  pub goes-moved : (X S : List Item) → goesOn (map (moveItem f) X) (map (moveItem f) S) ≡ goesOn X S
+  goes-moved X S = rw (slices-moved X, slices-moved S) (go (slicesOf X) (slicesOf S))
+    where
+      go : (l m : List Slice) → joins (map (moveSlice f) l) (map (moveSlice f) m) ≡ joins l m
+      go [] m = refl
+      go (a ∷ l) [] = refl
+      go (a ∷ l) (b ∷ m) = rw (last-moved a l, differ-moved (lastOf a l) b)

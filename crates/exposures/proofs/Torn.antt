@@ -1,11 +1,11 @@
 -- Demand 3 for exposures: of lists that end in S, behind whatever stands before it, the exposures that begin in S are those of S alone, but for what looks back.
 use Prim.Native.Nat.{ℕ, suc, _+_, _-_, _≤_}
 use mathlib.Core.Path.{_≡_, refl, sym, ap, _∙_}
-use mathlib.Core.Bool.{Bool, true, false, not, false≢true}
+use mathlib.Core.Bool.{Bool, true, false, not, _&&_, _||_, or-comm, false≢true}
 use mathlib.Core.List.{List, [], _∷_, _++_, map, append-nil}
 use native.Mathlib.Omega.{arith}
 use lib.ListN.{length, take, drop, length-append}
-use lib.Seq.{take-append-le, drop-append-add, drop-drop}
+use lib.Seq.{take-append-le, drop-append-add}
 use Rattle.bits.specs.Refusals.{pick}
 use Rattle.bits.proofs.Results.{cases}
 use Rattle.exposures.specs.declared.slice.Slice.{Slice}
@@ -18,9 +18,10 @@ use Rattle.exposures.specs.Compare.{differ, gapAfter}
 use Rattle.exposures.specs.Exposure.{exposureOf}
 use Rattle.exposures.specs.Pictures.{slicesOf, Picture, restOf, lastOf, lastIn, cut, refusedIn, gapTo, exposuresFrom, exposures}
 use Rattle.exposures.specs.Take.{start, finishOf, said, run, stateAfter}
-use Rattle.exposures.specs.Torn.{joins, goesOn, begunIn, noRefused, noGap}
+use Rattle.exposures.specs.Torn.{joins, goesOn, begunIn, noRefused, own}
 use Rattle.exposures.proofs.Grouped.{slicesInAll, pictures-partition}
 use Rattle.exposures.proofs.Runs.{grown, during, onto, waiting, along, from-start, taken-exposures}
+use Rattle.exposures.proofs.Moved.{drop-map}
 use Rattle.exposures.proofs.Came.{same-frame, Came, none, some, came, closedIn, run-append}
 
 -- ---- what begins in S
@@ -114,10 +115,6 @@ tail-alike : (g h : Bool) (m n : ℕ) (ps : List Picture) → drop 1 (exposuresF
 tail-alike g h m n [] = refl
 tail-alike g h m n (p ∷ ps) = refl
 
--- an exposure without what looks back
-abbrev pub own : Exposure → Exposure
-own e = noGap (noRefused e)
-
 own-alike : (g h : Bool) (m n : ℕ) (ps : List Picture) → map own (exposuresFrom g m ps) ≡ map own (exposuresFrom h n ps)
 unfolding exposureOf
 own-alike g h m n [] = refl
@@ -178,10 +175,49 @@ module _ (X S : List Item) where
 pub torn-alike : (X Y S : List Item) → goesOn X S ≡ goesOn Y S → drop 1 (begunIn X S) ≡ drop 1 (begunIn Y S)
 torn-alike X Y S e = torn-late X S ∙ ap (λ (b : Bool). drop 1 (drop (before b) (exposures S))) e ∙ sym (torn-late Y S)
 
-later : (b : Bool) (es fs : List Exposure) → drop 1 es ≡ drop 1 (drop (before b) fs) → drop (pick b 1 2) es ≡ drop 2 fs
-later true es fs h = h ∙ drop-drop 1 1 fs
-later false es fs h = sym (drop-drop 1 1 es) ∙ ap (drop 1) h ∙ drop-drop 1 1 fs
+-- ---- whether it does or not
 
--- and in any case all are the same but those of the first two pictures of S: the first may go on with one of X, the second counts refused units from the first on
-pub torn-any : (X Y S : List Item) → drop (pick (goesOn X S) 1 2) (begunIn X S) ≡ drop (pick (goesOn Y S) 1 2) (begunIn Y S)
-torn-any X Y S = later (goesOn X S) (begunIn X S) (exposures S) (torn-late X S) ∙ sym (later (goesOn Y S) (begunIn Y S) (exposures S) (torn-late Y S))
+-- of the exposures that begin in S here, those that begin in S there too: without the first, where the first picture of S goes on there and not here
+abbrev pub shared : (here there : Bool) → List Exposure → List Exposure
+shared here there es = drop (before (there && not here)) es
+
+behind-first : (here there : Bool) (es fs : List Exposure) → drop 1 es ≡ drop 1 (drop (before here) fs) → drop 1 (shared here there es) ≡ drop 1 (drop (before (here || there)) fs)
+behind-first true true es fs h = h
+behind-first true false es fs h = h
+behind-first false true es fs h = ap (drop 1) h
+behind-first false false es fs h = h
+
+with-first : (f : Exposure → Exposure) (here there : Bool) (es fs : List Exposure) → map f es ≡ map f (drop (before here) fs)
+    → map f (shared here there es) ≡ map f (drop (before (here || there)) fs)
+with-first f true true es fs h = h
+with-first f true false es fs h = h
+with-first f false true es fs h = drop-map f 1 es ∙ ap (drop 1) h ∙ sym (drop-map f 1 fs)
+with-first f false false es fs h = h
+
+module _ (X Y S : List Item) where
+  either : (goesOn X S || goesOn Y S) ≡ (goesOn Y S || goesOn X S)
+  either = or-comm (goesOn X S) (goesOn Y S)
+
+  -- all but the first are the same
+  pub torn-both : drop 1 (shared (goesOn X S) (goesOn Y S) (begunIn X S)) ≡ drop 1 (shared (goesOn Y S) (goesOn X S) (begunIn Y S))
+  torn-both =
+      behind-first (goesOn X S) (goesOn Y S) (begunIn X S) (exposures S) (torn-late X S) ∙ ap (λ (b : Bool). drop 1 (drop (before b) (exposures S))) either
+      ∙ sym (behind-first (goesOn Y S) (goesOn X S) (begunIn Y S) (exposures S) (torn-late Y S))
+
+  -- the first of them too but for what looks back
+  pub torn-both-first : map own (shared (goesOn X S) (goesOn Y S) (begunIn X S)) ≡ map own (shared (goesOn Y S) (goesOn X S) (begunIn Y S))
+  torn-both-first =
+      with-first own (goesOn X S) (goesOn Y S) (begunIn X S) (exposures S) (torn-first X S) ∙ ap (λ (b : Bool). map own (drop (before b) (exposures S))) either
+      ∙ sym (with-first own (goesOn Y S) (goesOn X S) (begunIn Y S) (exposures S) (torn-first Y S))
+
+  -- where the first picture of S goes on in one of them, only refused units look back
+  pub torn-both-gap : (goesOn X S || goesOn Y S) ≡ true
+      → map noRefused (shared (goesOn X S) (goesOn Y S) (begunIn X S)) ≡ map noRefused (shared (goesOn Y S) (goesOn X S) (begunIn Y S))
+  torn-both-gap h =
+      one X (goesOn X S) refl (goesOn Y S) h ∙ sym (one Y (goesOn Y S) refl (goesOn X S) (sym either ∙ h))
+    where
+      one : (Z : List Item) (here : Bool) → goesOn Z S ≡ here → (there : Bool) → (here || there) ≡ true → map noRefused (shared here there (begunIn Z S)) ≡ map noRefused (drop 1 (exposures S))
+      one Z true e true k = torn-gap Z S e ∙ ap (λ (b : Bool). map noRefused (drop (before b) (exposures S))) e
+      one Z true e false k = torn-gap Z S e ∙ ap (λ (b : Bool). map noRefused (drop (before b) (exposures S))) e
+      one Z false e true k = ap (map noRefused) (torn-late Z S ∙ ap (λ (b : Bool). drop 1 (drop (before b) (exposures S))) e)
+      one Z false e false k = absurd (false≢true k)

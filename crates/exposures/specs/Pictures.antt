@@ -1,4 +1,4 @@
--- The pictures of a list of units, and their exposures.
+-- The pictures of a list of units, and their exposures (docs/RULES.md, 'Exposures').
 use Prim.Native.Nat.{ℕ}
 use mathlib.Core.Bool.{Bool, true, false}
 use mathlib.Core.List.{List, [], _∷_, _++_}

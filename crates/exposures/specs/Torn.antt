@@ -50,3 +50,6 @@ noGap e =
       gap = false;
       «refused_before» = e .«refused_before»;
     }
+
+abbrev pub own : Exposure → Exposure
+own e = noGap (noRefused e)

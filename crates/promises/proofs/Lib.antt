@@ -11,3 +11,8 @@ pub mod BoundWords
 pub mod Widths
 pub mod Sets
 pub mod Headers
+pub mod Begins
+pub mod Items
+pub mod Places
+pub mod Exposures
+pub mod Shown

@@ -4,3 +4,4 @@ pub mod Behind
 pub mod Bound
 pub mod Before
 pub mod Sets
+pub mod Exposures

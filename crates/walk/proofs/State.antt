@@ -53,7 +53,7 @@ module _ {T A : Type 0} (step : T → List ℕ → T) (answer : T → List ℕ �
   after t [] = t
   after t (u ∷ us) = after (step t (u .read)) us
 
-  run-append : (t : T) (us vs : List Span) → run t (us ++ vs) ≡ run t us ++ run (after t us) vs
+  pub run-append : (t : T) (us vs : List Span) → run t (us ++ vs) ≡ run t us ++ run (after t us) vs
   run-append t [] vs = refl
   run-append t (u ∷ us) vs = ap (λ (rs : List (Report A)). reportOf (answer t) u ∷ rs) (run-append (step t (u .read)) us vs)
 
