@@ -16,10 +16,94 @@ extern "C" {
 #endif
 
 /* The number of this layout: what tuz_layout() answers in an archive made from the same sources. */
-#define TUZ_LAYOUT 9
+#define TUZ_LAYOUT 11
 
 /* The bytes of a buffer that holds every slice header: tuz_write_header never answers 26 to it. */
 #define TUZ_HEADER_BYTES 6144
+
+/* What converting answers: how many bytes the result has, or the rules' refusal. What the answer does not speak of is zero. */
+typedef struct {
+  uint32_t number;
+  int64_t value;
+  size_t bytes;
+} tuz_ConvertedOut;
+
+typedef struct {
+  bool there;
+  bool value;
+} tuz_MarkedFlag;
+
+/* prefix_nal_unit_svc( ) without its list, of which it has the count. */
+typedef struct {
+  tuz_MarkedFlag store_ref_base_pic_flag;
+  tuz_MarkedFlag adaptive_ref_base_pic_marking_mode_flag;
+  uint32_t base_markings;
+  tuz_MarkedFlag additional_prefix_nal_unit_extension_flag;
+} tuz_PrefixShort;
+
+/* What a sequence parameter set says (7.3.2.1.1). */
+typedef struct {
+  uint32_t chroma_format_idc;
+  bool separate_colour_plane_flag;
+  uint32_t bit_depth_luma_minus8;
+  uint32_t log2_max_frame_num;
+  uint32_t pic_order_cnt_type;
+  uint32_t log2_max_pic_order_cnt_lsb_minus4;
+  bool delta_pic_order_always_zero_flag;
+  bool frame_mbs_only_flag;
+  uint32_t pic_size_in_map_units;
+} tuz_Sequence;
+
+/* What a picture parameter set says (7.3.2.2). A change rate of 0 is an absent one. */
+typedef struct {
+  uint32_t seq_parameter_set_id;
+  bool entropy_coding_mode_flag;
+  bool bottom_field_pic_order_in_frame_present_flag;
+  uint32_t num_ref_idx_l0_default_active_minus1;
+  uint32_t num_ref_idx_l1_default_active_minus1;
+  bool weighted_pred_flag;
+  uint32_t weighted_bipred_idc;
+  int32_t pic_init_qp_minus26;
+  int32_t pic_init_qs_minus26;
+  bool deblocking_filter_control_present_flag;
+  bool redundant_pic_cnt_present_flag;
+  uint32_t slice_group_change_rate;
+} tuz_Picture;
+
+/* What reading a unit answers. What the answer does not speak of is zero. */
+typedef struct {
+  /* 0: a unit of another type; 1: a slice; 2: a prefix unit; 3: refused; 4: a sequence set; 5: a picture set */
+  uint32_t answer;
+  /* the type of another unit, the refusal's number, or the set's id */
+  uint32_t number;
+  /* the refusal's value */
+  int64_t value;
+  /* where the refused field begins in the unescaped body, of a refusal that arises there */
+  bool has_bit;
+  size_t bit;
+  /* the slice header's length in bits */
+  size_t bits;
+  /* its list stands in words that the caller lends, as a slice's header does */
+  tuz_PrefixShort prefix;
+  /* a parameter set */
+  tuz_Sequence sequence;
+  tuz_Picture picture;
+} tuz_ReadOut;
+
+/* A step of the walk. What it does not speak of is zero. */
+typedef struct {
+  /* 0: the end; 1: a unit; 2: refused */
+  uint32_t step;
+  /* the refusal's number and value */
+  uint32_t number;
+  int64_t value;
+  /* where the unit begins, after its start code or its length, how many bytes it has, and where to go on */
+  size_t place;
+  size_t length;
+  size_t next;
+  /* what reading the unit answers */
+  tuz_ReadOut read;
+} tuz_WalkOut;
 
 typedef struct {
   /* the number of nal_unit_type */
@@ -39,45 +123,29 @@ typedef struct {
   tuz_UnitHead head;
 } tuz_HeadOut;
 
+/* The step's part of it, where nothing is read. */
+typedef struct {
+  /* 0: the end; 1: a unit; 2: refused */
+  uint32_t step;
+  /* the refusal's number and value */
+  uint32_t number;
+  int64_t value;
+  /* where the unit begins, after its start code or its length, how many bytes it has, and where to go on */
+  size_t place;
+  size_t length;
+  size_t next;
+} tuz_StepOut;
+
 typedef struct {
   uint32_t sequences[224];
   uint32_t pictures[2304];
 } tuz_Table;
-
-/* What a sequence parameter set says (7.3.2.1.1). */
-typedef struct {
-  uint32_t chroma_format_idc;
-  bool separate_colour_plane_flag;
-  uint32_t bit_depth_luma_minus8;
-  uint32_t log2_max_frame_num;
-  uint32_t pic_order_cnt_type;
-  uint32_t log2_max_pic_order_cnt_lsb_minus4;
-  bool delta_pic_order_always_zero_flag;
-  bool frame_mbs_only_flag;
-  uint32_t pic_size_in_map_units;
-} tuz_Sequence;
 
 /* A sequence set, or none: then `there` is false and every field zero. */
 typedef struct {
   bool there;
   tuz_Sequence sequence;
 } tuz_SequenceOut;
-
-/* What a picture parameter set says (7.3.2.2). A change rate of 0 is an absent one. */
-typedef struct {
-  uint32_t seq_parameter_set_id;
-  bool entropy_coding_mode_flag;
-  bool bottom_field_pic_order_in_frame_present_flag;
-  uint32_t num_ref_idx_l0_default_active_minus1;
-  uint32_t num_ref_idx_l1_default_active_minus1;
-  bool weighted_pred_flag;
-  uint32_t weighted_bipred_idc;
-  int32_t pic_init_qp_minus26;
-  int32_t pic_init_qs_minus26;
-  bool deblocking_filter_control_present_flag;
-  bool redundant_pic_cnt_present_flag;
-  uint32_t slice_group_change_rate;
-} tuz_Picture;
 
 /* A picture set, or none: then `there` is false and every field zero. */
 typedef struct {
@@ -204,67 +272,6 @@ typedef struct {
   tuz_ClosedOut closed;
 } tuz_TakenOut;
 
-typedef struct {
-  bool there;
-  bool value;
-} tuz_MarkedFlag;
-
-/* prefix_nal_unit_svc( ) without its list, of which it has the count. */
-typedef struct {
-  tuz_MarkedFlag store_ref_base_pic_flag;
-  tuz_MarkedFlag adaptive_ref_base_pic_marking_mode_flag;
-  uint32_t base_markings;
-  tuz_MarkedFlag additional_prefix_nal_unit_extension_flag;
-} tuz_PrefixShort;
-
-/* What reading a unit answers. What the answer does not speak of is zero. */
-typedef struct {
-  /* 0: a unit of another type; 1: a slice; 2: a prefix unit; 3: refused; 4: a sequence set; 5: a picture set */
-  uint32_t answer;
-  /* the type of another unit, the refusal's number, or the set's id */
-  uint32_t number;
-  /* the refusal's value */
-  int64_t value;
-  /* where the refused field begins in the unescaped body, of a refusal that arises there */
-  bool has_bit;
-  size_t bit;
-  /* the slice header's length in bits */
-  size_t bits;
-  /* its list stands in words that the caller lends, as a slice's header does */
-  tuz_PrefixShort prefix;
-  /* a parameter set */
-  tuz_Sequence sequence;
-  tuz_Picture picture;
-} tuz_ReadOut;
-
-/* The step's part of it, where nothing is read. */
-typedef struct {
-  /* 0: the end; 1: a unit; 2: refused */
-  uint32_t step;
-  /* the refusal's number and value */
-  uint32_t number;
-  int64_t value;
-  /* where the unit begins, after its start code, how many bytes it has, and where to go on */
-  size_t place;
-  size_t length;
-  size_t next;
-} tuz_StepOut;
-
-/* A step of the walk. What it does not speak of is zero. */
-typedef struct {
-  /* 0: the end; 1: a unit; 2: refused */
-  uint32_t step;
-  /* the refusal's number and value */
-  uint32_t number;
-  int64_t value;
-  /* where the unit begins, after its start code, how many bytes it has, and where to go on */
-  size_t place;
-  size_t length;
-  size_t next;
-  /* what reading the unit answers */
-  tuz_ReadOut read;
-} tuz_WalkOut;
-
 /* The three extension bytes; where they are not there, they are unused. Types 1 and 5 make no use of them. */
 typedef struct {
   bool there;
@@ -281,12 +288,18 @@ typedef struct {
 } tuz_WroteOut;
 
 #ifndef __cplusplus
+_Static_assert(sizeof(tuz_ConvertedOut) == 24, "tuz_ConvertedOut");
+_Static_assert(sizeof(tuz_MarkedFlag) == 2, "tuz_MarkedFlag");
+_Static_assert(sizeof(tuz_PrefixShort) == 12, "tuz_PrefixShort");
+_Static_assert(sizeof(tuz_Sequence) == 32, "tuz_Sequence");
+_Static_assert(sizeof(tuz_Picture) == 40, "tuz_Picture");
+_Static_assert(sizeof(tuz_ReadOut) == 128, "tuz_ReadOut");
+_Static_assert(sizeof(tuz_WalkOut) == 168, "tuz_WalkOut");
 _Static_assert(sizeof(tuz_UnitHead) == 5, "tuz_UnitHead");
 _Static_assert(sizeof(tuz_HeadOut) == 16, "tuz_HeadOut");
+_Static_assert(sizeof(tuz_StepOut) == 40, "tuz_StepOut");
 _Static_assert(sizeof(tuz_Table) == 10112, "tuz_Table");
-_Static_assert(sizeof(tuz_Sequence) == 32, "tuz_Sequence");
 _Static_assert(sizeof(tuz_SequenceOut) == 36, "tuz_SequenceOut");
-_Static_assert(sizeof(tuz_Picture) == 40, "tuz_Picture");
 _Static_assert(sizeof(tuz_PictureOut) == 44, "tuz_PictureOut");
 _Static_assert(sizeof(tuz_ChangedOut) == 16, "tuz_ChangedOut");
 _Static_assert(sizeof(tuz_NalHeaderOut) == 16, "tuz_NalHeaderOut");
@@ -299,11 +312,6 @@ _Static_assert(sizeof(tuz_Counts) == 48, "tuz_Counts");
 _Static_assert(sizeof(tuz_State) == 184, "tuz_State");
 _Static_assert(sizeof(tuz_ClosedOut) == 64, "tuz_ClosedOut");
 _Static_assert(sizeof(tuz_TakenOut) == 248, "tuz_TakenOut");
-_Static_assert(sizeof(tuz_MarkedFlag) == 2, "tuz_MarkedFlag");
-_Static_assert(sizeof(tuz_PrefixShort) == 12, "tuz_PrefixShort");
-_Static_assert(sizeof(tuz_ReadOut) == 128, "tuz_ReadOut");
-_Static_assert(sizeof(tuz_StepOut) == 40, "tuz_StepOut");
-_Static_assert(sizeof(tuz_WalkOut) == 168, "tuz_WalkOut");
 _Static_assert(sizeof(tuz_ExtensionGiven) == 4, "tuz_ExtensionGiven");
 _Static_assert(sizeof(tuz_WroteOut) == 24, "tuz_WroteOut");
 #endif
@@ -383,10 +391,25 @@ enum tuz_signed {
 /* How many bits the header that words hold has at most, by a table's array of picture sets and the header's numbers alone. A buffer with room for as many bits is never too short for `tuz_write_header`. */
 size_t tuz_header_bound(const uint32_t pictures[2304], const uint32_t numbers[57]);
 
+/* The units of a recording framed by length, each behind 00 00 00 01: the result is as long as the recording. A refusal leaves the output as it was. */
+void tuz_to_start_codes(tuz_ConvertedOut *result, const uint8_t *recording, size_t recording_len, uint8_t *out, size_t out_len);
+
+/* The units of a recording with start codes, each behind its length. A refusal leaves the output as it was; 26 has the bytes that are needed. */
+void tuz_to_lengths(tuz_ConvertedOut *result, const uint8_t *recording, size_t recording_len, uint8_t *out, size_t out_len);
+
+/* One step of the walk from a place on, as `tuz_walk` has it, but that slices and prefix units are read from the recording itself: scratch needs as many bytes as the longest parameter set (types 7 and 8) has, and holds no slice's body. */
+void tuz_walk_headers(tuz_WalkOut *result, uint32_t sequences[224], uint32_t pictures[2304], const uint8_t *recording, size_t recording_len, size_t from, uint8_t *scratch, size_t scratch_len, uint32_t numbers[57], int32_t signed_numbers[7], uint32_t l0[198], uint32_t l1[198], uint32_t marking[198], int32_t w0[256], int32_t w1[256], uint32_t base[198]);
+
 /* What a unit's first bytes say. `tuz_body` takes the answer's `head`, and reads the body. */
 tuz_HeadOut tuz_head(const uint8_t *unit, size_t unit_len);
 
 uint32_t tuz_layout(void);
+
+/* The unit whose length stands at a place of a recording framed by length, with nothing read; what stands at any place is taken for a length. Refused is also a broken length, with 29 and its place. */
+void tuz_next_framed(tuz_StepOut *result, const uint8_t *recording, size_t recording_len, size_t from);
+
+/* One step of the walk over it, which reads headers alone, as `tuz_walk_headers` does. */
+void tuz_walk_framed_headers(tuz_WalkOut *result, uint32_t sequences[224], uint32_t pictures[2304], const uint8_t *recording, size_t recording_len, size_t from, uint8_t *scratch, size_t scratch_len, uint32_t numbers[57], int32_t signed_numbers[7], uint32_t l0[198], uint32_t l1[198], uint32_t marking[198], int32_t w0[256], int32_t w1[256], uint32_t base[198]);
 
 /* A unit's line: its place and length in the recording, its bytes, which only a prefix unit's line looks at, `answer`, `number`, `value`, `has_bit` and `bit` of its ReadOut, and the words of a slice's fields. */
 size_t tuz_unit_line(uint8_t line[128], const uint32_t pictures[2304], size_t place, size_t length, const uint8_t *unit, size_t unit_len, uint32_t answer, uint8_t number, int64_t value, bool has_bit, size_t bit, const uint32_t numbers[57], const int32_t signed_numbers[7]);
@@ -396,6 +419,9 @@ size_t tuz_head_line(uint8_t line[128], size_t place, size_t length, tuz_HeadOut
 
 /* The last line: how many units there were, and how many of them were refused. */
 size_t tuz_end_line(uint8_t line[128], size_t units, size_t refused);
+
+/* The line of a broken length, which stands before the last one in the listing of a recording framed by length. */
+size_t tuz_broken_line(uint8_t line[128], size_t place);
 
 /* QP, by the table's array of picture sets, the id of one and slice_qp_delta. A set that the table does not have counts as zeros. */
 int64_t tuz_final_qp(const uint32_t pictures[2304], uint32_t id, int32_t delta);

@@ -6,8 +6,8 @@ the counts.
 
 Lists of units are made at random, 100,000 of them. The model is held to a second way of working the same out, all at once and by pairs of neighbours, and to what
 the proofs say of lists that end alike. Every rule of the comparison must have decided somewhere alone, and every rule of a gap somewhere. With PROGRAM, recordings are
-made of such lists, each slice behind the parameter sets that it is read by, and `PROGRAM exposures --format csv` must tell what the model does; so must it in the clips,
-by the frames that are known of them and by the packets of ffprobe, where that is there. Exits non-zero and says what differs.
+made of such lists, each slice behind the parameter sets that it is read by, and `PROGRAM exposures --format csv` must tell what the model does (boundaries.py has clips).
+Exits non-zero and says what differs.
 """
 import argparse
 import collections
@@ -16,7 +16,6 @@ import itertools
 import pathlib
 import random
 import re
-import shutil
 import subprocess
 import sys
 import tempfile
@@ -320,7 +319,7 @@ def sets(r, s):
     b.ue(1)
     b.u(1, 0)
     b.ue(10, 8)
-    b.u(1, 0, 0, 0, 0, 0)
+    b.u(1, 0, 0, 1, 0, 0)
     p = Bits()
     p.ue(s.pic_parameter_set_id, sps)
     p.u(1, 0, 1)
@@ -332,10 +331,10 @@ def sets(r, s):
     return b.unit(0x67), p.unit(0x68), init
 
 
-def coded(s, init, redundant=0, view=False):
+def coded(s, init, redundant=0, view=False, first_mb=0):
     """The unit of an I slice; a view has an extension."""
     b, idr = Bits(), s.idr and not view
-    b.ue(0, 7, s.pic_parameter_set_id)
+    b.ue(first_mb, 7, s.pic_parameter_set_id)
     b.u(s.log2_max_frame_num, s.frame_num)
     b.u(1, s.field_pic_flag)
     if s.field_pic_flag:
@@ -424,29 +423,6 @@ def held(port, r, count):
     return all_found
 
 
-# frames that tests/clips/make.py encodes; a frame coded as two fields would be two exposures
-CLIPS = {"tests/clips/comet.264": 48, "tests/clips/fields.264": 24, "tests/clips/plain.264": 48, "tests/clips/scalable.264": 24, "demo/night.264": 24}
-ROOT = pathlib.Path(__file__).resolve().parent.parent
-
-
-def clips(port):
-    """As many exposures as frames, and, where ffprobe is there, each with its first slice in the packet of its number; how they were compared."""
-    how = "frames"
-    for name, frames in CLIPS.items():
-        rows, totals = command(port, ROOT / name)
-        if totals[0] != frames:
-            sys.exit(f"exposures: {name} has {frames} frames, and {totals[0]} exposures")
-        if shutil.which("ffprobe"):
-            words = ["ffprobe", "-v", "error", "-show_entries", "packet=pos", "-of", "csv=p=0", ROOT / name]
-            told = subprocess.run(words, capture_output=True, text=True, check=True).stdout
-            starts = [int(line.strip(",")) for line in told.split()]
-            places = [int(r[1]) for r in rows]
-            if len(starts) != len(places) or not all(a <= p < b for a, p, b in zip(starts, places, starts[1:] + [float("inf")])):
-                sys.exit(f"exposures: {name}: ffprobe has packets at {starts}, exposures begin at {places}")
-            how = "packets of ffprobe"
-    return how
-
-
 def main():
     parser = argparse.ArgumentParser()
     parser.add_argument("--seed", type=int, default=1)
@@ -474,8 +450,7 @@ def main():
     print(f"exposures: {words.count} lists of units, both ways; every rule decided alone, the least often {min(seen[w] for w in WANTED)} times")
     if words.port:
         found = held(words.port, r, words.recordings)
-        how = clips(words.port)
-        print(f"exposures: {words.recordings} recordings, {found} exposures: the command tells what the model does; {len(CLIPS)} clips have the exposures of their {how}")
+        print(f"exposures: {words.recordings} recordings, {found} exposures: the command tells what the model does")
 
 
 if __name__ == "__main__":

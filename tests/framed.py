@@ -1,18 +1,28 @@
 #!/usr/bin/env python3
 """Recordings framed by length: a model of the walk and of the two converters, and what must hold of it.
 
-    tests/framed.py [--seed S] [--count N]
+    tests/framed.py [--seed S] [--count N] [--archive FILE] [--port PROGRAM]
 
 `step`, `walk`, `to_start_codes` and `to_lengths` say what docs/RULES.md, 'Framed by length', says; `made`, `coded` and `damaged` make recordings. Tried on N small
 recordings, half of them damaged: steps chain to the walk, from any place; a unit is carried exactly where it is found again behind start codes; there and back gives
 the same units, and from lengths the same bytes; 27, 29, 35, 27 and 26 come in this order, with these values; damage leaves the units before it. Last, the smallest
-damage that reaches behind. Exits non-zero and says what differs.
+damage that reaches behind.
+
+With FILE, the static library that tools/archive makes, its converters answer each of these recordings as the model does, with output that is just long enough, too long and
+too short, and leave every other byte of it as it was; and 27 on recordings of the limit's length. With PROGRAM, `PROGRAM convert` takes clips there and back, byte for byte where all start codes have
+four bytes; and, where ffmpeg is there, the samples of an MP4 file have the units that its h264_mp4toannexb gives. Exits non-zero and says what differs.
 """
 import argparse
+import ctypes
 import itertools
+import json
+import pathlib
 import random
 import re
+import shutil
+import subprocess
 import sys
+import tempfile
 
 from rules import units
 
@@ -193,11 +203,141 @@ def smallest():
                         return m, n, s
 
 
+# ---- the compiled library
+
+
+class Converted(ctypes.Structure):
+    """include/tuzmarghil.h, tuz_ConvertedOut."""
+
+    _fields_ = [("number", ctypes.c_uint32), ("value", ctypes.c_int64), ("bytes", ctypes.c_size_t)]
+
+
+class Library:
+    """The archive, as a shared library."""
+
+    def __init__(self, archive, folder):
+        shared = pathlib.Path(folder) / "converters.so"
+        subprocess.run(["cc", "-shared", "-o", shared, "-Wl,--whole-archive", archive, "-Wl,--no-whole-archive"], check=True)
+        self.library = ctypes.CDLL(str(shared))
+        self.calls = 0
+
+    def call(self, name, recording, size, out, room):
+        result = Converted()
+        function = getattr(self.library, name)
+        function.restype = None
+        function(ctypes.byref(result), recording, ctypes.c_size_t(size), out, ctypes.c_size_t(room))
+        self.calls += 1
+        return result
+
+    def check(self, name, model, recording, room):
+        """One call: its answer, and all of the output."""
+        before = bytes(range(1, 256)) * (room // 255 + 1)
+        out = ctypes.create_string_buffer(before[:room], room)
+        got = self.call(name, recording, len(recording), out, room)
+        want = model(recording, room)
+        if isinstance(want, bytes):
+            expect((got.number, got.value, got.bytes) == (0, 0, len(want)), f"{name} answers {got.number, got.value, got.bytes}", recording, want)
+            expect(out.raw == want + before[len(want) : room], f"what {name} leaves", recording, out.raw)
+        else:
+            expect((got.number, got.value, got.bytes) == (*want, 0), f"{name} answers {got.number, got.value, got.bytes}", recording, want)
+            expect(out.raw == before[:room], f"{name} is refused, and the output is another", recording)
+
+    def held(self, recording, coded_one, r):
+        for name, model, given in ("tuz_to_start_codes", to_start_codes, recording), ("tuz_to_lengths", to_lengths, coded_one):
+            result = model(given, 2 * len(given) + 4)
+            exact = len(result) if isinstance(result, bytes) else r.randrange(len(given) + 1)
+            for room in {exact, max(exact - 1, 0), exact + 1 + r.randrange(9), len(given) // 3 * 4 + 2}:
+                self.check(name, model, given, room)
+
+    def limits(self):
+        """27 for the recording, before 29; and for the result, before 26. No output is needed for it."""
+        zeros = ctypes.create_string_buffer(LIMIT + 1)
+        for name, size, want in [
+            ("tuz_to_start_codes", LIMIT + 1, (27, 0)),
+            ("tuz_to_start_codes", LIMIT - 1, (29, LIMIT - 4)),
+            ("tuz_to_start_codes", LIMIT, (26, LIMIT)),
+            ("tuz_to_lengths", LIMIT + 1, (27, 0)),
+        ]:
+            got = self.call(name, zeros, size, None, 0)
+            expect((got.number, got.value) == want, f"{name} of {size} zeros is {got.number, got.value}, not {want}")
+        codes = b"\0\0\1" * (LIMIT // 3)
+        got = self.call("tuz_to_lengths", codes, len(codes), None, 0)
+        expect((got.number, got.value) == (27, 0), f"27 for the result is {got.number, got.value}")
+        fewer = codes[: LIMIT // 4 * 3]
+        got = self.call("tuz_to_lengths", fewer, len(fewer), None, 0)
+        expect((got.number, got.value) == (26, LIMIT), f"26 at the limit is {got.number, got.value}")
+
+
+# ---- the command, on clips
+
+ROOT = pathlib.Path(__file__).resolve().parent.parent
+CLIPS = [ROOT / "demo/night.264", *sorted((ROOT / "tests/clips").glob("*.264"))]
+
+
+def convert(port, given, out, to):
+    subprocess.run([port, "convert", given, "-o", out, "--to", to, "-q"], check=True)
+    return out.read_bytes()
+
+
+def there_and_back(port, folder, clip):
+    """A clip's units; whether all of its start codes have four bytes, so that it comes back byte for byte."""
+    recording = clip.read_bytes()
+    bodies = [unit for _, unit in units(recording)]
+    framed = convert(port, clip, folder / "framed", "length")
+    expect(framed == behind_lengths(bodies), f"{clip.name} by length has other units")
+    back = convert(port, folder / "framed", folder / "back.264", "start-codes")
+    expect(back == b"".join(CODE + unit for unit in bodies), f"{clip.name} there and back has other units")
+    return bodies, back == recording
+
+
+def samples(movie):
+    """The samples of an MP4 file's track, joined: ffprobe says where they are."""
+    words = ["ffprobe", "-v", "error", "-select_streams", "v", "-show_entries", "packet=pos,size", "-of", "json", movie]
+    told = json.loads(subprocess.run(words, check=True, capture_output=True).stdout)["packets"]
+    data = movie.read_bytes()
+    return b"".join(data[int(p["pos"]) :][: int(p["size"])] for p in told)
+
+
+def by_ffmpeg(port, folder, clip):
+    """An MP4 file of a clip: its samples, converted, have the units of h264_mp4toannexb, but for the parameter sets that it puts in from the file's header."""
+    movie, stream, framed = folder / "clip.mp4", folder / "annexb.264", folder / "samples"
+    ffmpeg = ["ffmpeg", "-y", "-v", "error"]
+    subprocess.run([*ffmpeg, "-fflags", "+genpts", "-r", "25", "-f", "h264", "-i", clip, "-c", "copy", movie], check=True)
+    subprocess.run([*ffmpeg, "-i", movie, "-c", "copy", "-bsf:v", "h264_mp4toannexb", "-f", "h264", stream], check=True)
+    framed.write_bytes(samples(movie))
+    ours = [unit for _, unit in units(convert(port, framed, folder / "ours.264", "start-codes"))]
+    theirs = [unit for _, unit in units(stream.read_bytes())]
+    sets = {unit for unit in theirs if unit[0] & 31 in (7, 8)}
+    expect([u for u in ours if u not in sets] == [u for u in theirs if u not in sets], f"{clip.name}: h264_mp4toannexb gives other units")
+    return len(ours)
+
+
+def on_clips(port):
+    found, same, movies = 0, 0, 0
+    with tempfile.TemporaryDirectory() as temporary:
+        folder = pathlib.Path(temporary)
+        for clip in CLIPS:
+            bodies, _ = there_and_back(port, folder, clip)
+            found += len(bodies)
+            four = folder / "four.264"
+            four.write_bytes(b"".join(CODE + unit for unit in bodies))
+            same += there_and_back(port, folder, four)[1]
+            if shutil.which("ffmpeg") and shutil.which("ffprobe"):
+                movies += by_ffmpeg(port, folder, clip)
+    expect(same == len(CLIPS), f"of {len(CLIPS)} clips with start codes of four bytes {same} came back byte for byte")
+    how = f"{movies} units of MP4 samples as h264_mp4toannexb has them" if movies else "skipped: no ffmpeg, so MP4 samples are not compared"
+    print(f"framed: {found} units of {len(CLIPS)} clips there and back; {how}")
+
+
 def main():
     words = argparse.ArgumentParser()
     words.add_argument("--seed", type=int, default=101)
     words.add_argument("--count", type=int, default=100_000)
+    words.add_argument("--archive")
+    words.add_argument("--port")
     given = words.parse_args()
+    folder = tempfile.TemporaryDirectory()
+    library = Library(given.archive, folder.name) if given.archive else None
     r, converted = random.Random(given.seed), 0
     for number in range(given.count):
         recording = made(r, clean if r.random() < 0.5 else body)
@@ -207,9 +347,17 @@ def main():
             recording = torn
         check_walk(recording, r)
         converted += check_to_codes(recording)
-        check_to_lengths(coded(r) if r.random() < 0.8 else b"".join(CODE + clean(r) for _ in range(r.randrange(5))))
+        with_codes = coded(r) if r.random() < 0.8 else b"".join(CODE + clean(r) for _ in range(r.randrange(5)))
+        check_to_lengths(with_codes)
+        if library:
+            library.held(recording, with_codes, r)
     expect(smallest() == (b"", b"\0", bytes(4)), "the smallest damage that reaches behind", *smallest())
     print(f"framed: {given.count} recordings framed by length, {converted} of them converted there and back, and as many with start codes")
+    if library:
+        library.limits()
+        print(f"framed: the library's converters answered {library.calls} times as the model does")
+    if given.port:
+        on_clips(given.port)
 
 
 if __name__ == "__main__":

@@ -1,10 +1,11 @@
 #!/usr/bin/env python3
 """Replays tests/frozen: thousands of cases with the answers of h264-reader 0.9.0, which need none of its sources.
 
-    tests/frozen.py [--port COMMAND | --model] [--rewrite]
+    tests/frozen.py [--port COMMAND | --model] [--rewrite] [--headers]
 
 COMMAND answers `COMMAND cases FILE`; else $TUZ does, else ./tuz. The model in rules.py is held to them too; --model: it alone.
-With --rewrite the port also writes each slice header that it has read, and stops where its bits do not come back.
+With --rewrite the port also writes each slice header that it has read, and stops where its bits do not come back; with --headers it also walks over each unit with
+headers alone, and stops where that answers otherwise.
 
 A line of answers.txt is the Rust's answer, as tests/oracle prints it, with the bit place of a refusal as its tracing reader sees it. Where the Rust departs from the rules in a known way
 (docs/DIFFERENCES.md), what the rules want stands behind ` | doc: `, or, where the Rust stops at a forbidden pattern, the Rust's answer
@@ -54,6 +55,7 @@ def main():
     p.add_argument("--port", default=os.environ.get("TUZ", str(ROOT / "tuz")))
     p.add_argument("--model", action="store_true")
     p.add_argument("--rewrite", action="store_true")
+    p.add_argument("--headers", action="store_true")
     args = p.parse_args()
     port = shlex.split(args.port)
     wanted = [DOCUMENT.sub("", line) for line in (FROZEN / "answers.txt").read_text().splitlines()]
@@ -63,8 +65,8 @@ def main():
     if not pathlib.Path(port[0]).exists() and "/" in port[0]:
         print(f"frozen: skipped: the port: there is no {port[0]}; give --port or $TUZ")
         return not good or os.environ.get("CI") == "true"
-    rewrite = ["--rewrite"] if args.rewrite else []
-    done = subprocess.run([*port, "cases", *rewrite, str(FROZEN / "cases.txt")], stdout=subprocess.PIPE, text=True)
+    more = [word for word, asked in (("--rewrite", args.rewrite), ("--headers", args.headers)) if asked]
+    done = subprocess.run([*port, "cases", *more, str(FROZEN / "cases.txt")], stdout=subprocess.PIPE, text=True)
     answers = done.stdout.splitlines()
     if done.returncode:
         print(f"frozen: the port ends with status {done.returncode} after {len(answers)} answers")

@@ -44,6 +44,29 @@ def kinds_told(port, clip):
         yield {name: unit.get("type" if name == "nal_unit_type" else name) for name in KINDS}
 
 
+EXPOSURE = "number place slices qp_least qp_mean qp_greatest frame_num gap refused_before".split()
+TOTALS = "exposures gaps refused redundant views".split()
+
+
+def exposures_told(port, clip):
+    """The command's objects and totals. It tells a mean with two decimals, and a gap as 0 or 1."""
+    done = subprocess.run([port, "exposures", clip, "--format", "json"], check=True, capture_output=True, text=True)
+    totals = done.stderr.strip().splitlines()[-1].rpartition(": ")[2].replace(",", "").split()
+    return [json.loads(line) for line in done.stdout.splitlines()], dict(zip(TOTALS, map(int, totals[::2])))
+
+
+def exposed(port, clip):
+    wanted, totals = exposures_told(port, str(clip))
+    found = tuzmarghil.exposures(clip)
+    ours = [{name: getattr(e, name) for name in EXPOSURE} for e in found]
+    ours = [{**e, "qp_mean": float(f"{e['qp_mean']:.2f}"), "gap": int(e["gap"])} for e in ours]
+    held(f"{clip.name}: another exposure", ours == wanted and wanted)
+    held(f"{clip.name}: other totals", {name: found.totals[name] for name in TOTALS} == totals)
+    parts = [count for name, count in found.totals.items() if name not in ("exposures", "gaps")]
+    held(f"{clip.name}: the counts do not add up", sum(parts) == len(list(tuzmarghil.reports(clip))))
+    return len(wanted)
+
+
 def compared(port, clip):
     wanted = list(told(port, str(clip)))
     found = [{name: getattr(r, name) for name in NAMES} for r in tuzmarghil.reports(clip)]
@@ -64,6 +87,8 @@ def errors():
         (lambda: tuzmarghil.reports("/nowhere/clip.264"), OSError),
         (lambda: tuzmarghil.qp("/nowhere/clip.264"), OSError),
         (lambda: tuzmarghil.kinds("/nowhere/clip.264"), OSError),
+        (lambda: tuzmarghil.exposures("/nowhere/clip.264"), OSError),
+        (lambda: list(tuzmarghil.exposures(ROOT)), OSError),
         (lambda: tuzmarghil.kinds(movie), ValueError),
         (lambda: list(tuzmarghil.reports(ROOT)), OSError),
         (lambda: tuzmarghil.reports(movie), ValueError),
@@ -88,6 +113,7 @@ def errors():
     bare.unlink()
     held("the sample sets are not sets", next(tuzmarghil.reports(clip, tuzmarghil.SAMPLE)).answer == "sps")
     held("a report does not show itself", "place=4" in repr(next(tuzmarghil.reports(clip))))
+    held("an exposure does not show itself", "number=1 place=740 slices=1" in repr(next(tuzmarghil.exposures(clip))))
     held("a kind does not show itself", "place=4 length=22 type=7" in repr(next(tuzmarghil.kinds(clip))))
 
 
@@ -97,9 +123,10 @@ def main():
     args = p.parse_args()
     clips = [ROOT / "demo/torn.264", *sorted((ROOT / "tests/clips").glob("*.264"))]
     counts = [compared(args.port, clip) for clip in clips]
+    pictures = sum(exposed(args.port, clip) for clip in clips)
     errors()
     units, refused = (sum(n) for n in zip(*counts))
-    print(f"python: {units} units of {len(clips)} clips, {refused} of them refused, are as the command tells them")
+    print(f"python: {units} units of {len(clips)} clips, {refused} of them refused, and {pictures} exposures are as the command tells them")
 
 
 main()

@@ -45,7 +45,8 @@ pub fn measure(made: &Recording, peers: &Peers, measure: &Measure, bars: &mut Ba
     print(&lanes, want.units, "header", None);
     for (lane, (name, _)) in lanes[1..].iter().zip(&peers.h264_reader) {
         let text = format!("headers of {}, over {name}", made.name);
-        bars.over_build(&text, name, lane.best / lanes[0].best, 1.5);
+        let bar = if made.name == "small" { 2.2 } else { 2.0 };
+        bars.over_build(&text, name, lane.best / lanes[0].best, bar);
     }
 }
 

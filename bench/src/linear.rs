@@ -5,6 +5,7 @@ use crate::ours;
 use crate::race::{race, Lane};
 use crate::recording::Recording;
 use crate::Measure;
+use tuzmarghil::raw;
 
 /// More than the caches hold.
 const MEMORY: usize = 64_000_000;
@@ -27,7 +28,7 @@ pub fn measure(made: &Recording, measure: &Measure, bars: &mut Bars) {
     for (recording, copies) in &recordings {
         let want = (copies.len() * recording.units.len()) as u64;
         let bytes = copies.iter().map(|copy| &copy[..]).collect();
-        let mut walk = ours::walk_all(&recording.table, bytes, recording.longest());
+        let mut walk = ours::walk_all(raw::walk, &recording.table, bytes, recording.longest());
         lanes.push(Lane::new("ours", want, move || walk().units));
     }
     race(&mut lanes, measure.rounds);

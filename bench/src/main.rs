@@ -14,10 +14,12 @@ use crate::recording::Recording;
 mod bars;
 mod codes;
 mod cpu;
+mod framed;
 mod heads;
 mod linear;
 mod ours;
 mod peers;
+mod pictures;
 mod race;
 mod random;
 mod recording;
@@ -25,7 +27,16 @@ mod sets;
 mod walks;
 mod writing;
 
-const PARTS: [&str; 6] = ["walk", "heads", "writing", "linear", "codes", "sets"];
+const PARTS: [&str; 8] = [
+    "walk",
+    "heads",
+    "exposures",
+    "writing",
+    "framed",
+    "linear",
+    "codes",
+    "sets",
+];
 
 /// How much is measured.
 pub struct Measure {
@@ -113,9 +124,20 @@ fn main() {
         }
         heads::groups(&measure);
     }
+    if asked("exposures") {
+        for made in [&small, &tiny] {
+            pictures::measure(made, &measure, &mut bars);
+        }
+    }
     if asked("writing") {
         writing::headers(&small, &measure, &mut bars);
         writing::recording(&tiny, &peers, &measure, &mut bars);
+    }
+    if asked("framed") {
+        for made in [&small, &large] {
+            framed::convert(made, &measure, &mut bars);
+            framed::walk(made, &measure, &mut bars);
+        }
     }
     if asked("linear") {
         for made in [&small, &large] {

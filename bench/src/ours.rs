@@ -7,6 +7,8 @@ use crate::peers::Found;
 
 const SLICE: u32 = 1;
 const A_UNIT: u32 = 1;
+/// Scratch that is enough for every parameter set of the recordings.
+const SETS: usize = 256;
 const NO_EXTENSION: ExtensionGiven = ExtensionGiven {
     there: false,
     b1: 0,
@@ -24,6 +26,9 @@ fn take(found: &mut Found, read: &ReadOut, words: &Words) {
         );
     }
 }
+
+/// A step of a walk.
+pub type Step = fn(&mut raw::Table, &[u8], usize, &mut [u8], &mut Words, &mut WalkOut);
 
 /// What a reading is lent: room for a body, and words for a header.
 struct Lent {
@@ -48,14 +53,19 @@ impl Lent {
         raw::read_unit(table.as_raw(), unit, scratch, words, out);
     }
 
-    /// Every unit of a recording, its header read and its body unescaped, by a copy of the table that the walk starts with. `each` sees the step, and what it left in
-    /// what was lent.
-    fn steps(&mut self, table: &Table, recording: &[u8], mut each: impl FnMut(&WalkOut, &Lent)) {
+    /// Every unit of a recording by a walk, and by a copy of the table that it starts with. `each` sees the step, and what it left in what was lent.
+    fn steps(
+        &mut self,
+        walk: Step,
+        table: &Table,
+        recording: &[u8],
+        mut each: impl FnMut(&WalkOut, &Lent),
+    ) {
         let (mut out, mut from) = (WalkOut::default(), 0);
         let mut table = *table.as_raw();
         loop {
             let (scratch, words) = (&mut self.scratch, &mut self.words);
-            raw::walk(&mut table, recording, from, scratch, words, &mut out);
+            walk(&mut table, recording, from, scratch, words, &mut out);
             if out.step != A_UNIT {
                 return;
             }
@@ -71,11 +81,22 @@ pub fn walk<'a>(
     recording: &'a [u8],
     longest: usize,
 ) -> impl FnMut() -> Found + 'a {
-    walk_all(table, vec![recording], longest)
+    walk_all(raw::walk, table, vec![recording], longest)
 }
 
-/// The walk over recordings, one after the other.
+/// The walk that reads headers alone: scratch is for parameter sets.
+pub fn headers_walk<'a>(table: &'a Table, recording: &'a [u8]) -> impl FnMut() -> Found + 'a {
+    walk_all(raw::walk_headers, table, vec![recording], SETS)
+}
+
+/// The same over a recording framed by length.
+pub fn framed_walk<'a>(table: &'a Table, recording: &'a [u8]) -> impl FnMut() -> Found + 'a {
+    walk_all(raw::walk_framed_headers, table, vec![recording], SETS)
+}
+
+/// A walk over recordings, one after the other.
 pub fn walk_all<'a>(
+    walk: Step,
     table: &'a Table,
     recordings: Vec<&'a [u8]>,
     longest: usize,
@@ -84,7 +105,7 @@ pub fn walk_all<'a>(
     move || {
         let mut found = Found::default();
         for recording in &recordings {
-            lent.steps(table, recording, |step, lent| {
+            lent.steps(walk, table, recording, |step, lent| {
                 found.units += 1;
                 found.lengths += step.length as u64;
                 take(&mut found, &step.read, &lent.words);
@@ -115,7 +136,7 @@ pub fn kinds(recording: &[u8]) -> impl FnMut() -> Found + '_ {
 pub fn compared(table: &Table, recording: &[u8], units: &[(usize, usize)]) -> u64 {
     let longest = units.iter().map(|u| u.1).max().unwrap_or(0);
     let (mut at, mut bodies) = (0, 0);
-    Lent::new(longest).steps(table, recording, |step, lent| {
+    Lent::new(longest).steps(raw::walk, table, recording, |step, lent| {
         let (place, length) = (step.place, step.length);
         assert_eq!((place, length), units[at], "unit {at} lies elsewhere");
         at += 1;
@@ -150,6 +171,26 @@ pub fn heads<'a>(table: &'a Table, units: &'a [&'a [u8]]) -> impl FnMut() -> Fou
             take(&mut found, &out, &lent.words);
         }
         found
+    }
+}
+
+/// The same, with each slice taken for exposures: how many pictures were closed beside what was found.
+pub fn taken<'a>(table: &'a Table, units: &'a [&'a [u8]]) -> impl FnMut() -> (Found, u64) + 'a {
+    let (mut lent, mut out) = (Lent::of(units), ReadOut::default());
+    move || {
+        let (mut found, mut closed) = (Found::default(), 0);
+        let mut taken = raw::exposures_start();
+        for unit in units {
+            lent.read(table, unit, &mut out);
+            found.units += 1;
+            found.lengths += unit.len() as u64;
+            take(&mut found, &out, &lent.words);
+            let place = found.lengths as usize;
+            let (table, words) = (table.as_raw(), &lent.words);
+            raw::take(&mut taken, table, place, unit[0], &out, words);
+            closed += u64::from(taken.closed.there);
+        }
+        (found, closed + u64::from(raw::finish(taken.state).there))
     }
 }
 
@@ -211,7 +252,7 @@ pub fn rewrite<'a>(
     let (mut lent, mut buffer) = (Lent::new(longest), [0; 256]);
     move || {
         let (mut found, mut bits) = (Found::default(), 0);
-        lent.steps(table, recording, |step, lent| {
+        lent.steps(raw::walk, table, recording, |step, lent| {
             found.units += 1;
             found.lengths += step.length as u64;
             take(&mut found, &step.read, &lent.words);

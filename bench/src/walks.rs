@@ -10,6 +10,7 @@ use crate::recording::Recording;
 use crate::{Measure, Peers};
 
 const MOST_UNITS: usize = 100_000;
+const HEADERS: &str = "ours, headers alone";
 
 fn read(bytes: &[u8]) -> u64 {
     bytes.chunks_exact(8).fold(0, |sum, eight| {
@@ -32,7 +33,11 @@ fn lanes<'a>(
     let nothing = Found::default();
 
     let walk = ours::walk(&recording.table, bytes, longest);
-    let mut lanes = vec![Lane::new("ours", want, walk)];
+    let headers = ours::headers_walk(&recording.table, bytes);
+    let mut lanes = vec![
+        Lane::new("ours", want, walk),
+        Lane::new(HEADERS, want, headers),
+    ];
     let kinds = Found {
         units: want.units,
         lengths: want.lengths,
@@ -83,25 +88,49 @@ pub fn measure(made: &Recording, peers: &Peers, measure: &Measure, bars: &mut Ba
         recording.slices().map(<[u8]>::len).sum::<usize>() / slices
     );
     print(&lanes, units as u64, "unit", Some(bytes));
-    if made.name != "small" && made.name != "large" {
-        return;
-    }
-    // the least of the times of lanes whose names begin so, over ours
-    let ratio = |begin: &str| {
-        let times = lanes.iter().filter(|l| l.name.starts_with(begin));
-        times
-            .map(|l| l.best / lanes[0].best)
-            .fold(f64::MAX, f64::min)
+    bar(made.name, &lanes, peers, bars);
+}
+
+/// The least of the times of lanes whose names begin with one word, over that of a lane.
+fn ratio(lanes: &[Lane<Found>], begin: &str, of: &str) -> f64 {
+    let own = lanes.iter().find(|l| l.name == of).map_or(0.0, |l| l.best);
+    let times = lanes.iter().filter(|l| l.name.starts_with(begin));
+    times.map(|l| l.best / own).fold(f64::MAX, f64::min)
+}
+
+fn bar(name: &str, lanes: &[Lane<Found>], peers: &Peers, bars: &mut Bars) {
+    // of headers alone over h264-reader, lazily, and over GStreamer
+    let (lazily, gstreamer) = match name {
+        "small" => (1.5, None),
+        "large" => (1.0, Some(2.5)),
+        "zeros" => (0.7, Some(2.0)),
+        _ => (1.5, None),
     };
-    for (name, _) in &peers.h264_reader {
-        let text = format!("{}, over {name}, same job", made.name);
-        bars.over_build(&text, name, ratio(&format!("{name}: same job")), 1.5);
-        let text = format!("{}, over {name}, lazily", made.name);
-        bars.goal(&text, ratio(&format!("{name}: lazily")), 1.0);
+    for (build, _) in &peers.h264_reader {
+        let text = format!("{name}, headers alone, over {build}, lazily");
+        let got = ratio(lanes, &format!("{build}: lazily"), HEADERS);
+        if matches!(name, "small" | "large") {
+            bars.at_least(&text, got, lazily);
+        } else {
+            bars.over_build(&text, build, got, lazily);
+        }
+        if name == "large" {
+            bars.goal(&text, got, 1.2);
+        }
+        if name == "small" {
+            let text = format!("{name}, over {build}, same job");
+            let got = ratio(lanes, &format!("{build}: same job"), "ours");
+            bars.over_build(&text, build, got, 1.2);
+        }
     }
-    if peers.gstreamer.is_some() {
-        let text = format!("{}, over GStreamer", made.name);
-        bars.at_least(&text, ratio("GStreamer"), 1.0);
-        bars.goal(&text, ratio("GStreamer"), 1.2);
+    if let (Some(bar), Some(_)) = (gstreamer, &peers.gstreamer) {
+        let text = format!("{name}, headers alone, over GStreamer");
+        bars.at_least(&text, ratio(lanes, "GStreamer", HEADERS), bar);
+    }
+    if name == "large" {
+        let text = format!("{name}, of memcpy's speed");
+        let got = ratio(lanes, "floor: memcpy", "ours");
+        bars.at_least(&text, got, 0.85);
+        bars.goal(&text, got, 0.92);
     }
 }

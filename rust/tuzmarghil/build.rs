@@ -5,7 +5,7 @@ use std::{env, fs};
 
 /// The crate that exports, and the files whose `#[repr(C)]` structs cross the boundary, or are made of the words that do (`Prefix` stands among them and is neither).
 const EXPORTS: &str = "exports";
-const RECORDS: [&str; 20] = [
+const RECORDS: [&str; 21] = [
     "table/src/sets.rt",
     "table/src/table.rt",
     "syntax/src/marks.rt",
@@ -18,6 +18,7 @@ const RECORDS: [&str; 20] = [
     "exports/src/heads.rt",
     "exports/src/units.rt",
     "exports/src/walks.rt",
+    "exports/src/converts.rt",
     "writer/src/given.rt",
     "exports/src/writes.rt",
     "exports/src/starts.rt",

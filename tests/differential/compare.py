@@ -116,7 +116,8 @@ def shown_of_set(answer):
 class Sides:
     """The port's command and the oracle, run over case files in a folder."""
 
-    def __init__(self, port, oracle, folder):
+    def __init__(self, port, oracle, folder, more=()):
+        self.more = list(more)  # words behind `cases`
         self.port, self.oracle, self.folder = port, oracle, pathlib.Path(folder)
         self.rust_words, self.seen, self.table = {}, set(), (None, {})
 
@@ -131,7 +132,7 @@ class Sides:
         path.write_text("\n".join(lines) + "\n")
         done = subprocess.run([*command, str(path)], stdout=subprocess.PIPE, text=True)
         said = done.stdout.splitlines()
-        if len(said) != len(lines):
+        if done.returncode or len(said) != len(lines):
             kept = shutil.copy(path, pathlib.Path(tempfile.gettempdir()) / "unanswered-cases")
             raise SystemExit(f"{command[0]}: {len(said)} answers to {len(lines)} cases, exit status {done.returncode}; kept as {kept}")
         return said
@@ -165,7 +166,7 @@ class Sides:
         """A Case for each line."""
         self.hold_tables(lines)
         self.rust_words = dict(list(self.rust_words.items())[-1000:])
-        rust, said = self.rust(lines), self.ran([*self.port, "cases"], lines)
+        rust, said = self.rust(lines), self.ran([*self.port, "cases", *self.more], lines)
         out = [Case(line, s, x, *reversed(group_of(x)), self.modelled(line, s)) for line, s, x in zip(lines, said, rust)]
         # Where the Rust stops at a forbidden pattern, it is asked for the same body, escaped.
         lost = [i for i, c in enumerate(out) if c.wanted is None]

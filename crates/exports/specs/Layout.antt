@@ -2,4 +2,4 @@
 use Prim.Native.Nat.{ℕ}
 
 abbrev pub layout : ℕ
-layout = 9
+layout = 11

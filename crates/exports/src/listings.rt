@@ -5,6 +5,7 @@ use crate::sets::no_picture;
 use crate::sets::no_sequence;
 use bits::refusals::Refusal;
 use lines::kinds::head_line;
+use lines::line::broken_line;
 use lines::line::end_line;
 use lines::line::unit_line;
 use parameter_sets::picture::PictureSet;
@@ -12,7 +13,7 @@ use parameter_sets::sequence::SequenceSet;
 use unit::answer::no_prefix;
 use unit::into::ShortAnswer;
 ghost use mathlib.Core.Path.{_≡_};
-ghost use Rattle.lines.specs.Lines.{lentLine, endLine, Written};
+ghost use Rattle.lines.specs.Lines.{lentLine, endLine, brokenLine, Written};
 ghost use Rattle.lines.specs.Kinds.{headLine};
 ghost use Rattle.exports.specs.Listings.{heard};
 ghost use Rattle.exports.specs.Heads.{headHeard};
@@ -92,4 +93,12 @@ pub extern "C" fn tuz_end_line(line: &mut [u8; 128], units: usize, refused: usiz
     ensures { λ r. ⌜ Written (endLine units refused) (now (line .entry)) r (now (line .exit)) ⌝ }
 {
     end_line(line, units, refused)
+}
+
+// The line of a broken length, which stands before the last one in the listing of a recording framed by length.
+#[no_mangle]
+pub extern "C" fn tuz_broken_line(line: &mut [u8; 128], place: usize) -> usize
+    ensures { λ r. ⌜ Written (brokenLine place) (now (line .entry)) r (now (line .exit)) ⌝ }
+{
+    broken_line(line, place)
 }

@@ -20,7 +20,7 @@ pub struct WalkOut {
     // the refusal's number and value
     pub number: u32,
     pub value: i64,
-    // where the unit begins, after its start code, how many bytes it has, and where to go on
+    // where the unit begins, after its start code or its length, how many bytes it has, and where to go on
     pub place: usize,
     pub length: usize,
     pub next: usize,
@@ -36,13 +36,13 @@ pub struct StepOut {
     // the refusal's number and value
     pub number: u32,
     pub value: i64,
-    // where the unit begins, after its start code, how many bytes it has, and where to go on
+    // where the unit begins, after its start code or its length, how many bytes it has, and where to go on
     pub place: usize,
     pub length: usize,
     pub next: usize,
 }
 
-fn come(s: Step) -> StepOut
+pub(crate) fn come(s: Step) -> StepOut
     ensures { λ r. ⌜ r ≡ came s ⌝ }
 {
     match s {
@@ -73,7 +73,7 @@ fn come(s: Step) -> StepOut
     }
 }
 
-fn walk_told(s: Step, a: ShortAnswer) -> WalkOut
+pub(crate) fn walk_told(s: Step, a: ShortAnswer) -> WalkOut
     ensures { λ r. ⌜ r ≡ walkTold s a ⌝ }
 {
     let c = come(s);

@@ -2,16 +2,17 @@
 use mathlib.Core.Path.{_≡_, refl, ap, _∙_}
 use mathlib.Core.List.{List, [], _∷_, _++_}
 use mathlib.Core.Bool.{Bool, true, false}
-use Prim.Native.Nat.{ℕ, zero, suc, _+_, _/_, _%_, _≤_}
+use Prim.Native.Nat.{ℕ, zero, suc, _+_, _-_, _*_, _/_, _%_, _≤_}
 use native.Mathlib.Omega.{arith}
 use lib.Dec.{leb, ltb}
 use borrow.Author.Tests.{leb-true}
-use lib.ListN.{length, take, drop, length-append, length-drop}
+use lib.ListN.{length, take, drop, length-append, length-drop, drop-of-length-le}
 use lib.Seq.{length-take-le}
 use Rattle.bits.specs.Refusals.{pick}
 use Rattle.walk.specs.declared.search.Found.{Found}
 use Rattle.walk.specs.Walk.{upto, lenOf, unitAt, firstFrom, nextUnit}
-use Rattle.walk.specs.Units.{Span}
+use Rattle.walk.specs.Units.{Span, unitsAt, units}
+use Rattle.walk.proofs.Chain.{went, ended}
 use Rattle.framed.specs.Framed.{four, spanBy, framedAt, framedUnits, endOf}
 use Rattle.framed.specs.Convert.{startCode, lengthBytes, joined, bytesOf}
 use Rattle.framed.proofs.Frames.{end-within}
@@ -95,3 +96,24 @@ place-behind s from {p} {l} {m} e = go (ltb (from + upto 1 (drop from s)) (lengt
     go : (t : Bool) → pick t (Found.At (from + upto 1 (drop from s) + 3) (lenOf (drop (from + upto 1 (drop from s) + 3) s)) (from + upto 1 (drop from s) + 3 + upto 0 (drop (from + upto 1 (drop from s) + 3) s))) Found.End ≡ Found.At p l m → from + 3 ≤ p
     go true q = let z : from + upto 1 (drop from s) + 3 ≡ p = cc in omega arith
     go false q = let z : _≡_ {A = ℕ} 0 1 = cc in absurd (omega arith)
+
+-- ---- how much room lengths take at most
+
+-- from a place on: a start code has three bytes, and a length four
+most-from : (f : ℕ) (s : List ℕ) (from : ℕ) → from ≤ length s → length s ≤ f + from
+    → 3 * length (joined lengthBytes (bytesOf (unitsAt from (drop from s)))) ≤ 4 * (length s - from)
+most-from zero s from h g = let l : length s ≤ from = omega arith in rw (drop-of-length-le s l) (omega arith)
+most-from (suc f) s from h g = go (nextUnit s from) refl (most-from f s)
+  where
+    go : (x : Found) → nextUnit s from ≡ x → ((m : ℕ) → m ≤ length s → length s ≤ f + m → 3 * length (joined lengthBytes (bytesOf (unitsAt m (drop m s)))) ≤ 4 * (length s - m))
+        → 3 * length (joined lengthBytes (bytesOf (unitsAt from (drop from s)))) ≤ 4 * (length s - from)
+    go Found.End e ih = rw (ended s from e) (omega arith)
+    go (Found.At p l m) e ih =
+        let w = went s from p l m e in
+        let b : from + 3 ≤ p = place-behind s from e in
+        let n = size-on l (w .there) (part-length s p l (omega arith)) in
+        let i = ih m (omega arith) (omega arith) in
+        omega arith
+
+pub lengths-most : (s : List ℕ) → 3 * length (joined lengthBytes (bytesOf (units s))) ≤ 4 * length s
+lengths-most s = let m = most-from (length s) s 0 (omega arith) (omega arith) in omega arith

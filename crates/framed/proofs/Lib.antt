@@ -8,6 +8,7 @@ pub mod Never
 pub mod Cases
 pub mod Lengths
 pub mod There
-pub mod Alike
 pub mod Damage
+pub mod Walks
+pub mod Alike
 pub mod Examples

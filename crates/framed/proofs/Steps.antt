@@ -5,12 +5,13 @@ use mathlib.Core.Logic.{inl, inr}
 use mathlib.Core.Bool.{Bool, true, false}
 use Prim.Native.Nat.{ℕ, _+_, _-_, _≤_, _<_}
 use native.Mathlib.Omega.{arith}
-use native.Mathlib.Decide.{decLt}
+use native.Mathlib.Decide.{decLe, decLt}
 use lib.Dec.{ltb}
-use borrow.Author.Tests.{le-leb, lt-leb, lt-ltb, le-ltb}
+use borrow.Author.Tests.{le-leb, lt-leb, lt-ltb, le-ltb, ltb-true}
 use lib.IntN.{pos}
 use lib.ListN.{length, take, drop}
 use Rattle.bits.specs.Refusals.{pick, refusal, tooLarge, limit}
+use Rattle.bits.specs.declared.refusals.Refusal.{Refusal}
 use Rattle.walk.specs.Units.{Span}
 use Rattle.walk.proofs.Steps.{NoUnit}
 use Rattle.walk.specs.declared.walk.Step.{Step}
@@ -30,7 +31,7 @@ module _ (s : List ℕ) (from : ℕ) where
   over h = rw (lt-leb (length s) limit h)
 
   module _ (small : length s ≤ limit) where
-    stays : stepTo from (length s) (framedAt 0 from (drop from s)) ≡ nextFramed s from
+    pub stays : stepTo from (length s) (framedAt 0 from (drop from s)) ≡ nextFramed s from
     unfolding nextFramed
     stays = rw (le-leb (length s) limit small)
 
@@ -82,3 +83,26 @@ module _ (s : List ℕ) (from : ℕ) where
             let ql : sizeAt s from ≡ l = cc in
             let qm : from + 4 + sizeAt s from ≡ m = cc in
             record { on = sym qp; inside = rw (← qp, ← ql) qm; within = rw (← qm) (omega arith); there = rw (← qp, ← ql, ← qm) (unit-at s from h (omega arith)) }
+
+    -- what is refused is 29, with the place that was asked from: so asked from there again it is 29 again
+    pub broken-there : {r : Refusal} → nextFramed s from ≡ Step.Refused r → (r ≡ refusal brokenLength (pos from)) × (from < length s)
+    broken-there {r} e = go (framedAt 0 from (drop from s)) (stays ∙ e)
+      where
+        by : (t : Bool) → ltb from (length s) ≡ t → pick t (Step.Refused (refusal brokenLength (pos from))) Step.End ≡ Step.Refused r → (r ≡ refusal brokenLength (pos from)) × (from < length s)
+        by true h q = (cc, ltb-true from (length s) h)
+        by false h q = let z : _≡_ {A = ℕ} 0 1 = cc in absurd (omega arith)
+
+        go : (us : List Span) → stepTo from (length s) us ≡ Step.Refused r → (r ≡ refusal brokenLength (pos from)) × (from < length s)
+        go [] q = by (ltb from (length s)) refl q
+        go (u ∷ us) q = let z : _≡_ {A = ℕ} 0 1 = cc in absurd (omega arith)
+
+  -- a recording in which a step comes to a unit is within the limit
+  pub found : {p l m : ℕ} → nextFramed s from ≡ Step.Unit p l m → Went s from p l m
+  found {p} {l} {m} e = go (decLe (length s) limit)
+    where
+      go : Dec (length s ≤ limit) → Went s from p l m
+      go (yes h) = went h e
+      go (no h) =
+          let q : Step.Refused (refusal tooLarge (pos 0)) ≡ Step.Unit p l m = over (omega arith) ∙ e in
+          let z : _≡_ {A = ℕ} 0 1 = cc in
+          absurd (omega arith)

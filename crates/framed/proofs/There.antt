@@ -78,6 +78,7 @@ puts-refuses result out {r} = go (leb (length result) limit) (leb (length result
 
 -- the recording has no broken length, all units are carried, and the result is these units behind start codes
 pub record FromLengths (s : List ℕ) (n : ℕ) (o : ConvertOut) : Type 0 where
+  pub within : length s ≤ limit
   pub ends : endOf 0 (framedUnits s) ≡ length s
   pub all : firstUncarried (framedUnits s) ≡ Uncarried.Nowhere
   pub size : n ≡ length (joined startCode (bytesOf (framedUnits s)))
@@ -85,18 +86,18 @@ pub record FromLengths (s : List ℕ) (n : ℕ) (o : ConvertOut) : Type 0 where
 
 pub from-lengths : (s out : List ℕ) {n : ℕ} → toStartCodes s out .answer ≡ Converted.Of n → FromLengths s n (toStartCodes s out)
 unfolding toStartCodes
-from-lengths s out {n} = go (leb (length s) limit) (ltb (endOf 0 (framedUnits s)) (length s)) refl
+from-lengths s out {n} = go (leb (length s) limit) refl (ltb (endOf 0 (framedUnits s)) (length s)) refl
   where
-    go : (a : Bool) (b : Bool) → ltb (endOf 0 (framedUnits s)) (length s) ≡ b
+    go : (a : Bool) → leb (length s) limit ≡ a → (b : Bool) → ltb (endOf 0 (framedUnits s)) (length s) ≡ b
         → pick a (pick b (refuses brokenLength (endOf 0 (framedUnits s)) out) (carries startCode (framedUnits s) out)) (refuses tooLarge 0 out) .answer ≡ Converted.Of n
         → FromLengths s n (pick a (pick b (refuses brokenLength (endOf 0 (framedUnits s)) out) (carries startCode (framedUnits s) out)) (refuses tooLarge 0 out))
-    go true true f e = absurd (refused brokenLength (endOf 0 (framedUnits s)) out e)
-    go true false f e =
+    go true w true f e = absurd (refused brokenLength (endOf 0 (framedUnits s)) out e)
+    go true l false f e =
         let c = carries-of startCode (framedUnits s) out e in
         let w : endOf (0 + 0) (framedUnits s) ≤ 0 + length s = end-within 0 0 s (omega arith) in
         let g : length s ≤ endOf 0 (framedUnits s) = ltb-false (endOf 0 (framedUnits s)) (length s) f in
-        record { ends = omega arith; all = c .0; size = c .1; done = c .2 }
-    go false b f e = absurd (refused tooLarge 0 out e)
+        record { within = leb-true (length s) limit l; ends = omega arith; all = c .0; size = c .1; done = c .2 }
+    go false l b f e = absurd (refused tooLarge 0 out e)
 
 -- the units of the result, by start codes, are those of the recording, by length
 pub codes-same : (s out : List ℕ) {n : ℕ} → toStartCodes s out .answer ≡ Converted.Of n → bytesOf (units (take n (toStartCodes s out .left))) ≡ bytesOf (framedUnits s)
@@ -107,17 +108,18 @@ codes-same s out e =
 -- ---- from start codes
 
 pub record FromCodes (s : List ℕ) (n : ℕ) (o : ConvertOut) : Type 0 where
+  pub within : length s ≤ limit
   pub size : n ≡ length (joined lengthBytes (bytesOf (units s)))
   pub done : Done o (joined lengthBytes (bytesOf (units s)))
 
 pub from-codes : (s out : List ℕ) {n : ℕ} → toLengths s out .answer ≡ Converted.Of n → FromCodes s n (toLengths s out)
 unfolding toLengths
-from-codes s out {n} = go (leb (length s) limit)
+from-codes s out {n} = go (leb (length s) limit) refl
   where
-    go : (a : Bool) → pick a (carries lengthBytes (units s) out) (refuses tooLarge 0 out) .answer ≡ Converted.Of n
+    go : (a : Bool) → leb (length s) limit ≡ a → pick a (carries lengthBytes (units s) out) (refuses tooLarge 0 out) .answer ≡ Converted.Of n
         → FromCodes s n (pick a (carries lengthBytes (units s) out) (refuses tooLarge 0 out))
-    go true e = let c = carries-of lengthBytes (units s) out e in record { size = c .1; done = c .2 }
-    go false e = absurd (refused tooLarge 0 out e)
+    go true l e = let c = carries-of lengthBytes (units s) out e in record { within = leb-true (length s) limit l; size = c .1; done = c .2 }
+    go false l e = absurd (refused tooLarge 0 out e)
 
 -- 35 never: from start codes 27 and 26 are all that is refused
 pub codes-refuse : (s out : List ℕ) {r : Refusal} → toLengths s out .answer ≡ Converted.Refused r → (r .number ≡ tooLarge) ⊎ (r .number ≡ bufferTooShort)

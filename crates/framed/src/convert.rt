@@ -1,9 +1,8 @@
 // From lengths to start codes and back, into lent output. A refused call leaves the output as it was.
 use crate::carry::Uncarried;
-use crate::carry::first_uncarried;
+use crate::carry::survey;
 use crate::put::put_unit;
 use crate::step::next_framed;
-use crate::step::units_end;
 use bits::refusals::BROKEN_LENGTH;
 use bits::refusals::BUFFER_TOO_SHORT;
 use bits::refusals::LIMIT;
@@ -14,8 +13,9 @@ use bits::refusals::refuse;
 use walk::search::Found;
 use walk::search::next_unit;
 use walk::walk::Step;
+ghost use mathlib.Core.Bool.{true};
 ghost use mathlib.Core.Path.{_≡_};
-ghost use Prim.Native.Nat.{_%_, _≤_};
+ghost use Prim.Native.Nat.{_+_, _/_, _%_, _≤_};
 ghost use Rattle.bits.specs.Refusals.{limit};
 ghost use lib.ListN.{length};
 ghost use Rattle.escape.specs.Body.{startWith};
@@ -54,11 +54,12 @@ pub fn to_start_codes(recording: &[u8], out: &mut [u8]) -> Converted
     if LIMIT < n {
         return Converted::Refused(refuse(TOO_LARGE, 0));
     }
-    let end = units_end(recording);
+    let found = survey(recording);
+    let end = found.end;
     if end < n {
         return Converted::Refused(refuse(BROKEN_LENGTH, end as i64));
     }
-    let first = first_uncarried(recording);
+    let first = found.first;
     if let Uncarried::At(place) = first {
         return Converted::Refused(refuse(NOT_CARRIED, place as i64));
     }
@@ -126,12 +127,29 @@ fn put_lengths(recording: &[u8], out: &mut [u8]) -> usize
     }
 }
 
+// Whether there is room for the result whatever the recording holds: a start code has three bytes and a length four. Then no unit is sought twice.
+fn is_roomy(n: usize, room: usize) -> bool
+    requires { ⌜ n ≤ limit ⌝ }
+    ensures { λ r. ⌜ (r ≡ true → (n + n / 3 ≤ room) × (n + n / 3 ≤ limit)) ⌝ }
+{
+    let most = n + n / 3;
+    if room < most {
+        return false;
+    }
+    most <= LIMIT
+}
+
+// Output of a third more bytes than the recording is always long enough, and saves a search.
 pub fn to_lengths(recording: &[u8], out: &mut [u8]) -> Converted
     ensures { λ r. ⌜ r ≡ toLengths (now (recording .entry)) (now (out .entry)) .answer ⌝ }
     ensures { λ r. ⌜ now (out .exit) ≡ toLengths (now (recording .entry)) (now (out .entry)) .left ⌝ }
 {
-    if LIMIT < recording.len() {
+    let n = recording.len();
+    if LIMIT < n {
         return Converted::Refused(refuse(TOO_LARGE, 0));
+    }
+    if is_roomy(n, out.len()) {
+        return Converted::Of(put_lengths(recording, out));
     }
     let need = size_with_lengths(recording);
     if LIMIT < need {

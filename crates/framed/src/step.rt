@@ -7,8 +7,8 @@ use walk::walk::Step;
 ghost use mathlib.Core.Path.{_≡_};
 ghost use Prim.Native.Nat.{_+_, _<_, _≤_};
 ghost use Rattle.bits.specs.Refusals.{limit};
-ghost use lib.ListN.{length, getD};
-ghost use Rattle.framed.specs.Framed.{four, framedUnits, endOf, nextFramed};
+ghost use lib.ListN.{length, drop, getD};
+ghost use Rattle.framed.specs.Framed.{four, framedAt, endOf, nextFramed};
 
 fn wide(x: u8) -> usize
     ensures { λ r. ⌜ (r ≡ x) × (r < 256) ⌝ }
@@ -47,12 +47,12 @@ pub fn next_framed(recording: &[u8], from: usize) -> Step
     Step::Unit(place, size, place + size)
 }
 
-// Where the units end: the recording's end, or the place of a length that is broken.
-pub(crate) fn units_end(recording: &[u8]) -> usize
+// Where the units from `from` on end: the recording's end, or the place of a length that is broken.
+pub(crate) fn units_end(recording: &[u8], from: usize) -> usize
     requires { ⌜ length (now recording) ≤ limit ⌝ }
-    ensures { λ r. ⌜ r ≡ endOf 0 (framedUnits (now (recording .entry))) ⌝ }
+    ensures { λ r. ⌜ r ≡ endOf from (framedAt 0 from (drop from (now (recording .entry)))) ⌝ }
 {
-    let mut i: usize = 0;
+    let mut i = from;
     loop {
         let Step::Unit(_, _, next) = next_framed(recording, i) else {
             return i;

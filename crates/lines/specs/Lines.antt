@@ -88,6 +88,10 @@ lentLine pictures place size unit answer numbers signed = lineOf place size (len
 unfoldable pub endLine : ℕ → ℕ → List ℕ
 endLine units refused = field "end units=" units ++ field " refused=" refused ++ words "\n"
 
+-- a length that is broken, in a recording framed by length: 29 with its place
+unfoldable pub brokenLine : ℕ → List ℕ
+brokenLine place = field "refused 29 value=" place ++ words "\n"
+
 unfoldable pub tooLongLine : List ℕ
 tooLongLine = words "end too long\n"
 

@@ -10,7 +10,7 @@ use unit::into::ShortAnswer;
 ghost use mathlib.Core.Path.{_≡_};
 ghost use Prim.Native.Nat.{_≤_};
 ghost use Rattle.lines.specs.Text.{Put};
-ghost use Rattle.lines.specs.Lines.{isSvc, sliceText, prefixText, bitText, refusedText, lentText, lentLine, endLine, tooLongLine, Written};
+ghost use Rattle.lines.specs.Lines.{isSvc, sliceText, prefixText, bitText, refusedText, lentText, lentLine, endLine, brokenLine, tooLongLine, Written};
 
 // Whether a unit's extension is SVC's.
 fn is_svc(unit: &[u8]) -> bool
@@ -117,6 +117,14 @@ pub fn end_line(line: &mut [u8; 128], units: usize, refused: usize) -> usize
     let a = field(line, 0, b"end units=", units as u64);
     let b = field(line, a, b" refused=", refused as u64);
     words(line, b, b"\n")
+}
+
+// The line of a length that is broken, which ends a recording framed by length.
+pub fn broken_line(line: &mut [u8; 128], place: usize) -> usize
+    ensures { λ r. ⌜ Written (brokenLine place) (now (line .entry)) r (now (line .exit)) ⌝ }
+{
+    let a = field(line, 0, b"refused 29 value=", place as u64);
+    words(line, a, b"\n")
 }
 
 // The one line for a recording that is too long.

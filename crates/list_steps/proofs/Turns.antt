@@ -1,4 +1,4 @@
--- The cases of one step of a listing.
+-- The cases of one step of a listing, for either framing: `next` says where the walk steps to.
 use mathlib.Core.Path.{_≡_, refl, sym, ap, ap₂, subst, _∙_}
 use mathlib.Core.List.{List}
 use mathlib.Core.Bool.{Bool, true, false, true≢false}
@@ -7,22 +7,26 @@ use native.Mathlib.Omega.{arith}
 use borrow.Author.Tests.{le-leb, lt-leb, lt-ltb, leb-true, leb-false}
 use lib.Dec.{leb}
 use lib.ListN.{length, length-take, length-drop}
+use Rattle.bits.specs.declared.refusals.Refusal.{Refusal}
 use Rattle.table.specs.declared.table.Table.{Table}
 use Rattle.unit.specs.declared.answer.UnitAnswer.{UnitAnswer}
 use Rattle.unit.specs.declared.answer.UnitRead.{UnitRead}
 use Rattle.unit.specs.Unit.{unitRead}
 use Rattle.unit.specs.Into.{short, shortAnswer, wordsAfter}
 use Rattle.walk.specs.declared.walk.Step.{Step}
-use Rattle.walk.specs.Walked.{tableAfter, nextStep, walked}
-use Rattle.walk.proofs.Steps.{found-at, step-of, table-of}
-use Rattle.walk.proofs.Chain.{Went, went}
-use Rattle.lines.specs.Lines.{tooLongLine, unitLine, lentLine, Written}
+use Rattle.walk.specs.Walked.{WalkOut, nextStep, walkBy}
+use Rattle.walk.proofs.Nexts.{none-from}
+use Rattle.walk.proofs.Steps.{step-found, found-at, refused-over, step-of}
+use Rattle.walk.proofs.Chain.{went}
+use Rattle.framed.specs.Framed.{nextFramed}
+use Rattle.framed.proofs.Steps.{at-end, found, broken-there}
+use Rattle.lines.specs.Lines.{brokenLine, tooLongLine, unitLine, lentLine, Written}
 use Rattle.lines.proofs.Lent.{lent-line}
 use Rattle.list_steps.specs.declared.step.State.{State}
 use Rattle.list_steps.specs.declared.step.Listed.{Listed}
 use Rattle.list_steps.specs.declared.step.Next.{Next}
-use Rattle.list_steps.specs.Listing.{most, isRefused, oneMore, counted, bytesAt, Turn, last, lineAfter, turn, Stepped}
-use Rattle.list_steps.specs.Private.{isRefusedShort, Ends, blank, Met}
+use Rattle.list_steps.specs.Listing.{most, isRefused, oneMore, counted, bytesAt, Turn, last, lineAfter, turnBy, turn, framedTurn, Stepped}
+use Rattle.list_steps.specs.Private.{isRefusedShort, nextBy, Ends, Broken, blank, Met}
 
 pub one-more : (n : ℕ) → n < most → oneMore n ≡ suc n
 one-more n h = rw (lt-ltb n most h)
@@ -31,19 +35,40 @@ one-more n h = rw (lt-ltb n most h)
 pub ends : {text line line′ : List ℕ} {st : State} {r : Listed} → Ends text st line r line′ → (scratch : List ℕ) (t : Table) → Stepped (last text st scratch t) line r scratch line′ t
 ends e scratch t = record { state = e .state; more = e .more; text = e .text; left = refl; table = refl }
 
-module _ (t : Table) (s : List ℕ) (from : ℕ) (scratch : List ℕ) where
-  -- where a step of the walk comes to a unit, that lies ahead and within the recording
-  pub ahead : (p n m : ℕ) → walked t s from scratch .walked .step ≡ Step.Unit p n m → Went s from p n m
-  unfolding walked
-  ahead p n m e = went s from p n m (found-at s from (sym (step-of unitRead t s scratch (nextStep s from)) ∙ e))
+-- so is a broken length's
+pub breaks : (n : ℕ) (st : State) {line line′ : List ℕ} {r : Listed} → Broken st n line r line′ → (scratch : List ℕ) (t : Table)
+    → Stepped (record { text = brokenLine (st .from); state = record { from = n; units = st .units; refused = oneMore (st .refused) }; more = true; left = scratch; table = t }) line r scratch line′ t
+breaks n st e scratch t = record { state = e .state; more = e .more; text = e .text; left = refl; table = refl }
 
-  -- the table that it leaves is that after the unit
-  pub table-after : tableAfter t (walked t s from scratch .walked .read .answer) ≡ walked t s from scratch .table
-  unfolding walked
-  table-after = sym (table-of unitRead t s scratch (nextStep s from))
+-- ---- where the walk steps to
 
-  pub inside : {r : Next} {z : List ℕ} {v : Table} {p n m : ℕ} → Met (walked t s from scratch) r z v → r .step ≡ Step.Unit p n m → p + n ≤ length s
-  inside {p = p} {n = n} {m = m} e g = let w = ahead p n m (sym (e .step) ∙ g) in omega (arith, w .inside, w .within)
+-- a unit lies ahead and within the recording, so does a broken length, and from the recording's end it is the end
+pub record Ahead (s : List ℕ) (next : ℕ → Step) : Type 0 where
+  pub on : (from p n m : ℕ) → next from ≡ Step.Unit p n m → (from < m) × (m ≤ length s) × (p + n ≤ length s)
+  pub stops : (from : ℕ) (r : Refusal) → next from ≡ Step.Refused r → from < length s
+  pub past : next (length s) ≡ Step.End
+
+pub start-ahead : (s : List ℕ) → length s ≤ most → Ahead s (nextStep s)
+start-ahead s h =
+    record {
+      on = λ from p n m e. let w = went s from p n m (found-at s from e) in (w .on, w .within, omega arith);
+      stops = λ from r e. absurd (omega (arith, refused-over s from e .0));
+      past = sym (step-found s (length s) (omega arith) (sym (none-from s (length s) _ refl (omega arith))));
+    }
+
+pub framed-ahead : (s : List ℕ) → length s ≤ most → Ahead s (nextFramed s)
+framed-ahead s h =
+    record {
+      on = λ from p n m e. let w = found s from e in (omega arith, w .within, omega arith);
+      stops = λ from r e. broken-there s from (omega arith) e .1;
+      past = sym (at-end s (length s) (omega arith) (omega arith));
+    }
+
+pub by-ahead : (b : Bool) (s : List ℕ) → length s ≤ most → Ahead s (nextBy b s)
+by-ahead true = framed-ahead
+by-ahead false = start-ahead
+
+-- ---- a unit
 
 -- an answer without its records is a refusal where the answer is
 refused-short : (u : UnitRead) → isRefusedShort (shortAnswer u) ≡ isRefused (u .answer)
@@ -58,56 +83,77 @@ refused-short u = go (u .answer)
     go (UnitAnswer.Other id) = refl
     go (UnitAnswer.Refused r) = refl
 
-module _ (t : Table) (s : List ℕ) (st : State) (scratch : List ℕ) where
-  pub turn-long : most < length s → turn t s st scratch ≡ last tooLongLine st scratch t
-  unfolding turn
+module _ (next : List ℕ → ℕ → Step) (t : Table) (s : List ℕ) (st : State) (scratch : List ℕ) where
+  abbrev out : WalkOut
+  out = walkBy unitRead next t s (st .from) scratch
+
+  -- where the walk came to
+  pub came : {k : Step} → next s (st .from) ≡ k → out .walked .step ≡ k
+  came e = step-of unitRead t s scratch (next s (st .from)) ∙ e
+
+  pub stepped-to : {r : Next} {z : List ℕ} {v : Table} {k : Step} → Met out r z v → r .step ≡ k → next s (st .from) ≡ k
+  stepped-to e g = sym (step-of unitRead t s scratch (next s (st .from))) ∙ sym (e .step) ∙ g
+
+  pub turn-long : most < length s → turnBy next t s st scratch ≡ last tooLongLine st scratch t
   turn-long h = rw (lt-leb (length s) most h)
 
-  -- by where the walk came to, and what it left in scratch and table
-  pub turn-by : length s ≤ most → {z : List ℕ} {v : Table} (k : Step) → z ≡ walked t s (st .from) scratch .left → v ≡ walked t s (st .from) scratch .table
-      → walked t s (st .from) scratch .walked .step ≡ k → turn t s st scratch ≡ lineAfter s st (walked t s (st .from) scratch .walked .read) z v k
-  unfolding turn
-  turn-by h {z} {v} k f d g =
-      let o = walked t s (st .from) scratch in
-      rw (le-leb (length s) most h)
-      (ap₂ (λ (z : List ℕ) (v : Table). lineAfter s st (o .walked .read) z v (o .walked .step)) (sym f) (sym d) ∙ ap (λ (k : Step). lineAfter s st (o .walked .read) z v k) g)
+  module _ (small : length s ≤ most) where
+    -- by where the walk came to, and what it left in scratch and table
+    pub turn-by : {z : List ℕ} {v : Table} (k : Step) → z ≡ out .left → v ≡ out .table → out .walked .step ≡ k → turnBy next t s st scratch ≡ lineAfter s st (out .walked .read) z v k
+    turn-by {z} {v} k f d g =
+        rw (le-leb (length s) most small)
+        (ap₂ (λ (z : List ℕ) (v : Table). lineAfter s st (out .walked .read) z v (out .walked .step)) (sym f) (sym d) ∙ ap (λ (k : Step). lineAfter s st (out .walked .read) z v k) g)
 
-  -- what is lent is s[p .. p + n]
-  pub unit-stepped : length s ≤ most → {r : Next} {z : List ℕ} {v : Table} {p n m : ℕ} → Met (walked t s (st .from) scratch) r z v → r .step ≡ Step.Unit p n m
-      → {line line′ : List ℕ} {length′ : ℕ} {st′ : State}
-      → Written (lentLine (v .pictures) p n (bytesAt s p (p + n - p)) (r .answer) (r .numbers) (r .signed)) line length′ line′
-      → st′ ≡ counted st m (isRefusedShort (r .answer))
-      → Stepped (turn t s st scratch) line (record { state = st′; length = length′; more = true }) z line′ v
-  unit-stepped h {r} {z} {v} {p} {n} {m} e g {line} {line′} {length′} {st′} w c =
-      let u = walked t s (st .from) scratch .walked .read in
-      let k : p + n - p ≡ n = omega arith in
-      let i : p + n ≤ length s = inside t s (st .from) scratch e g in
-      let l : n ≡ length (bytesAt s p n) = simp (length-take, length-drop) (omega arith) in
-      let d : lentLine (v .pictures) p n (bytesAt s p (p + n - p)) (r .answer) (r .numbers) (r .signed) ≡ unitLine (v .pictures) p (bytesAt s p n) u =
-      rw (k, e .answered, e .numbers, e .signed)
-      (ap (λ (j : ℕ). lentLine (v .pictures) p j (bytesAt s p n) (shortAnswer u) (wordsAfter u blank .header .numbers) (wordsAfter u blank .header .signed)) l
-      ∙ lent-line (v .pictures) (bytesAt s p n) u blank p) in
-      rw (turn-by h (Step.Unit p n m) (e .left) (e .table) (sym (e .step) ∙ g))
-      (record {
-        state = c ∙ ap (counted st m) (ap isRefusedShort (e .answered) ∙ refused-short u);
-        more = refl;
-        text = subst (λ (x : List ℕ). Written x line length′ line′) d w;
-        left = refl;
-        table = refl;
-      })
+    module _ (way : Ahead s (next s)) where
+      pub inside : {r : Next} {z : List ℕ} {v : Table} {p n m : ℕ} → Met out r z v → r .step ≡ Step.Unit p n m → p + n ≤ length s
+      inside {p = p} {n = n} {m = m} e g = way .on (st .from) p n m (stepped-to e g) .2
 
-  -- a step that another follows goes on ahead, within the recording
-  pub goes-on : turn t s st scratch .more ≡ true → (st .from < turn t s st scratch .state .from) × (turn t s st scratch .state .from ≤ length s)
-  goes-on e = size (leb (length s) most) refl
+      -- what is lent is s[p .. p + n]
+      pub unit-stepped : {r : Next} {z : List ℕ} {v : Table} {p n m : ℕ} → Met out r z v → r .step ≡ Step.Unit p n m
+          → {line line′ : List ℕ} {length′ : ℕ} {st′ : State}
+          → Written (lentLine (v .pictures) p n (bytesAt s p (p + n - p)) (r .answer) (r .numbers) (r .signed)) line length′ line′
+          → st′ ≡ counted st m (isRefusedShort (r .answer))
+          → Stepped (turnBy next t s st scratch) line (record { state = st′; length = length′; more = true }) z line′ v
+      unit-stepped {r} {z} {v} {p} {n} {m} e g {line} {line′} {length′} {st′} w c =
+          let u = out .walked .read in
+          let k : p + n - p ≡ n = omega arith in
+          let i : p + n ≤ length s = inside e g in
+          let l : n ≡ length (bytesAt s p n) = simp (length-take, length-drop) (omega arith) in
+          let d : lentLine (v .pictures) p n (bytesAt s p (p + n - p)) (r .answer) (r .numbers) (r .signed) ≡ unitLine (v .pictures) p (bytesAt s p n) u =
+          rw (k, e .answered, e .numbers, e .signed)
+          (ap (λ (j : ℕ). lentLine (v .pictures) p j (bytesAt s p n) (shortAnswer u) (wordsAfter u blank .header .numbers) (wordsAfter u blank .header .signed)) l
+          ∙ lent-line (v .pictures) (bytesAt s p n) u blank p) in
+          rw (turn-by (Step.Unit p n m) (e .left) (e .table) (sym (e .step) ∙ g))
+          (record {
+            state = c ∙ ap (counted st m) (ap isRefusedShort (e .answered) ∙ refused-short u);
+            more = refl;
+            text = subst (λ (x : List ℕ). Written x line length′ line′) d w;
+            left = refl;
+            table = refl;
+          })
+
+      -- a step that another follows goes on ahead, within the recording
+      on-from : turnBy next t s st scratch .more ≡ true → (st .from < turnBy next t s st scratch .state .from) × (turnBy next t s st scratch .state .from ≤ length s)
+      on-from e = go (next s (st .from)) refl
+        where
+          go : (k : Step) → next s (st .from) ≡ k → (st .from < turnBy next t s st scratch .state .from) × (turnBy next t s st scratch .state .from ≤ length s)
+          go (Step.Unit p n m) g = let w = way .on (st .from) p n m g in rw (turn-by (Step.Unit p n m) refl refl (came g)) (w .0, w .1)
+          go Step.End g = absurd (true≢false (sym e ∙ ap (λ (o : Turn). o .more) (turn-by Step.End refl refl (came g))))
+          go (Step.Refused r) g = let w = way .stops (st .from) r g in rw (turn-by (Step.Refused r) refl refl (came g)) (omega arith, omega arith)
+
+  goes-by : (length s ≤ most → Ahead s (next s)) → turnBy next t s st scratch .more ≡ true
+      → (st .from < turnBy next t s st scratch .state .from) × (turnBy next t s st scratch .state .from ≤ length s)
+  goes-by way e = size (leb (length s) most) refl
     where
-      by : length s ≤ most → (k : Step) → walked t s (st .from) scratch .walked .step ≡ k
-          → (st .from < turn t s st scratch .state .from) × (turn t s st scratch .state .from ≤ length s)
-      by h (Step.Unit p n m) g =
-          let w = ahead t s (st .from) scratch p n m g in
-          rw (turn-by h (Step.Unit p n m) refl refl g) (w .on, w .within)
-      by h Step.End g = absurd (true≢false (sym e ∙ ap (λ (o : Turn). o .more) (turn-by h Step.End refl refl g)))
-      by h (Step.Refused r) g = absurd (true≢false (sym e ∙ ap (λ (o : Turn). o .more) (turn-by h (Step.Refused r) refl refl g)))
-
-      size : (b : Bool) → leb (length s) most ≡ b → (st .from < turn t s st scratch .state .from) × (turn t s st scratch .state .from ≤ length s)
-      size true p = by (leb-true (length s) most p) (walked t s (st .from) scratch .walked .step) refl
+      size : (b : Bool) → leb (length s) most ≡ b → (st .from < turnBy next t s st scratch .state .from) × (turnBy next t s st scratch .state .from ≤ length s)
+      size true p = let h : length s ≤ most = leb-true (length s) most p in on-from h (way h) e
       size false p = absurd (true≢false (sym e ∙ ap (λ (o : Turn). o .more) (turn-long (leb-false (length s) most p))))
+
+module _ (t : Table) (s : List ℕ) (st : State) (scratch : List ℕ) where
+  pub goes-on : turn t s st scratch .more ≡ true → (st .from < turn t s st scratch .state .from) × (turn t s st scratch .state .from ≤ length s)
+  unfolding turn
+  goes-on = goes-by nextStep t s st scratch (start-ahead s)
+
+  pub framed-goes-on : framedTurn t s st scratch .more ≡ true → (st .from < framedTurn t s st scratch .state .from) × (framedTurn t s st scratch .state .from ≤ length s)
+  unfolding framedTurn
+  framed-goes-on = goes-by nextFramed t s st scratch (framed-ahead s)

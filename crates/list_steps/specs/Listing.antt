@@ -11,9 +11,12 @@ use Rattle.unit.specs.declared.answer.UnitAnswer.{UnitAnswer}
 use Rattle.unit.specs.declared.answer.UnitRead.{UnitRead}
 use Rattle.walk.specs.declared.walk.Step.{Step}
 use Rattle.walk.specs.Units.{Report}
-use Rattle.walk.specs.Walked.{WalkOut, tableAfter, walked}
+use Rattle.unit.specs.Unit.{unitRead}
+use Rattle.walk.specs.Walked.{WalkOut, tableAfter, nextStep, walkBy}
 use Rattle.walk.specs.Reports.{sift, reports}
-use Rattle.lines.specs.Lines.{unitLine, endLine, tooLongLine, Written}
+use Rattle.framed.specs.Framed.{framedUnits, endOf, nextFramed}
+use Rattle.framed.specs.Walked.{framedReports}
+use Rattle.lines.specs.Lines.{unitLine, endLine, brokenLine, tooLongLine, Written}
 use Rattle.list_steps.specs.declared.step.State.{State}
 use Rattle.list_steps.specs.declared.step.Listed.{Listed}
 
@@ -52,6 +55,14 @@ wholeText t s us = unitLines t s us ++ endLine (length us) (length (refusedOnes 
 unfoldable pub listing : Table → List ℕ → List ℕ → List ℕ
 listing t scratch s = pick (leb (length s) most) (wholeText t s (reports t scratch s)) tooLongLine
 
+-- framed by length: where the units end before the recording does, a length is broken. It has a line of its own and counts as refused
+abbrev pub framedText : Table → List ℕ → List (Report UnitRead) → ℕ → List ℕ
+framedText t s us end =
+    pick (ltb end (length s)) (unitLines t s us ++ (brokenLine end ++ endLine (length us) (suc (length (refusedOnes us))))) (wholeText t s us)
+
+unfoldable pub framedListing : Table → List ℕ → List ℕ → List ℕ
+framedListing t scratch s = pick (leb (length s) most) (framedText t s (framedReports t scratch s) (endOf 0 (framedUnits s))) tooLongLine
+
 -- ---- one step
 
 abbrev pub start : State
@@ -77,18 +88,30 @@ pub record Turn : Type 0 where
 abbrev pub last : List ℕ → State → List ℕ → Table → Turn
 last text st scratch t = record { text = text; state = st; more = false; left = scratch; table = t }
 
--- a unit's line and its count, by the table that the walk left; the totals where it came to no unit
+-- a unit's line and its count, by the table that the walk left; the totals at its end. Where the walk is refused, the length at its place is broken: only the totals follow
 abbrev pub lineAfter : List ℕ → State → UnitRead → List ℕ → Table → Step → Turn
 lineAfter s st read scratch t (Step.Unit place n next) =
     record { text = unitLine (t .pictures) place (bytesAt s place n) read; state = counted st next (isRefused (read .answer)); more = true; left = scratch; table = t }
 lineAfter s st read scratch t Step.End = last (endLine (st .units) (st .refused)) st scratch t
-lineAfter s st read scratch t (Step.Refused r) = last (endLine (st .units) (st .refused)) st scratch t
+lineAfter s st read scratch t (Step.Refused r) =
+    record { text = brokenLine (st .from); state = record { from = length s; units = st .units; refused = oneMore (st .refused) }; more = true; left = scratch; table = t }
 
 abbrev pub afterWalk : List ℕ → State → WalkOut → Turn
 afterWalk s st w = lineAfter s st (w .walked .read) (w .left) (w .table) (w .walked .step)
 
-unfoldable pub turn : Table → List ℕ → State → List ℕ → Turn
-turn t s st scratch = pick (leb (length s) most) (afterWalk s st (walked t s (st .from) scratch)) (last tooLongLine st scratch t)
+-- by a table, of a recording, in a state, with a scratch
+abbrev pub Turning : Type 0
+Turning = Table → List ℕ → State → List ℕ → Turn
+
+-- where the walk steps to its next unit as `next` says
+abbrev pub turnBy : (List ℕ → ℕ → Step) → Turning
+turnBy next t s st scratch = pick (leb (length s) most) (afterWalk s st (walkBy unitRead next t s (st .from) scratch)) (last tooLongLine st scratch t)
+
+unfoldable pub turn : Turning
+turn t s st scratch = turnBy nextStep t s st scratch
+
+unfoldable pub framedTurn : Turning
+framedTurn t s st scratch = turnBy nextFramed t s st scratch
 
 -- what a step answers and leaves
 pub record Stepped (o : Turn) (line : List ℕ) (r : Listed) (scratch line′ : List ℕ) (t : Table) : Type 0 where
@@ -103,6 +126,6 @@ pub record Stepped (o : Turn) (line : List ℕ) (r : Listed) (scratch line′ : 
 abbrev pub andOn : Turn → (Table → State → List ℕ → List ℕ) → List ℕ
 andOn o rest = o .text ++ pick (o .more) (rest (o .table) (o .state) (o .left)) []
 
-abbrev pub steps : ℕ → List ℕ → Table → State → List ℕ → List ℕ
-steps zero s t st scratch = []
-steps (suc f) s t st scratch = andOn (turn t s st scratch) (steps f s)
+abbrev pub steps : Turning → ℕ → List ℕ → Table → State → List ℕ → List ℕ
+steps turn zero s t st scratch = []
+steps turn (suc f) s t st scratch = andOn (turn t s st scratch) (steps turn f s)

@@ -3,7 +3,7 @@ use exposures::slice::Item;
 use exposures::slice::Kind;
 use exposures::slice::Slice;
 use fields::conditions::either;
-use lines::level::final_qp;
+use fields::quant::level;
 use record::parts_of::frame_of;
 use record::parts_of::order_count_of;
 use syntax::marks::MarkedNumber;
@@ -15,7 +15,7 @@ use table::words::sequence_in;
 use unit::into::ShortAnswer;
 ghost use mathlib.Core.Path.{_≡_};
 ghost use Rattle.header.specs.Lead.{tableOf};
-ghost use Rattle.syntax.specs.Context.{noSequence, pictureIn, sequenceIn, sequenceFor};
+ghost use Rattle.syntax.specs.Context.{noSequence, pictureIn, sequenceIn};
 ghost use Rattle.table.specs.Tables as tables;
 ghost use Rattle.unit.specs.Begin.{isPlain};
 ghost use Rattle.unit.specs.Into.{longAnswer};
@@ -37,12 +37,25 @@ fn no_sequence() -> Sequence
     }
 }
 
-fn sequence_id(pictures: &[u32; 2304], id: u32) -> u32
-    ensures { λ r. ⌜ r ≡ pictureIn (tables.pictureIn (now (pictures .entry)) id) .«seq_parameter_set_id» ⌝ }
+// What a slice needs of its picture set.
+struct PictureUse {
+    seq_parameter_set_id: u32,
+    pic_init_qp_minus26: i32,
+}
+
+// The picture set with an id; zeros where there is none.
+fn named(pictures: &[u32; 2304], id: u32) -> PictureUse
+    ensures { λ r. ⌜ (r .«seq_parameter_set_id» ≡ pictureIn (tables.pictureIn (now (pictures .entry)) id) .«seq_parameter_set_id») × (r .«pic_init_qp_minus26» ≡ pictureIn (tables.pictureIn (now (pictures .entry)) id) .«pic_init_qp_minus26») ⌝ }
 {
     match picture_in(pictures, id) {
-        FoundPicture::There(p, _) => p.seq_parameter_set_id,
-        FoundPicture::Absent => 0,
+        FoundPicture::There(p, _) => PictureUse {
+            seq_parameter_set_id: p.seq_parameter_set_id,
+            pic_init_qp_minus26: p.pic_init_qp_minus26,
+        },
+        FoundPicture::Absent => PictureUse {
+            seq_parameter_set_id: 0,
+            pic_init_qp_minus26: 0,
+        },
     }
 }
 
@@ -53,13 +66,6 @@ fn sequence_of(sequences: &[u32; 224], id: u32) -> Sequence
         FoundSequence::There(s) => s,
         FoundSequence::Absent => no_sequence(),
     }
-}
-
-// The sequence set that a picture set names.
-fn sequence_for<'a>(sequences: &'a [u32; 224], pictures: &'a [u32; 2304], id: u32) -> Sequence
-    ensures { λ r. ⌜ r ≡ sequenceFor (tableOf (now (sequences .entry)) (now (pictures .entry))) id ⌝ }
-{
-    sequence_of(sequences, sequence_id(pictures, id))
 }
 
 fn slice_of<'a>(
@@ -79,9 +85,10 @@ fn slice_of<'a>(
     let second = signed[2];
     let id = numbers[2];
     let lsb = numbers[14];
-    let s = sequence_for(sequences, pictures, id);
+    let p = named(pictures, id);
+    let s = sequence_of(sequences, p.seq_parameter_set_id);
     let f = frame_of(numbers);
-    let qp = final_qp(pictures, id, signed[3]);
+    let qp = level(p.pic_init_qp_minus26, signed[3]);
     Slice {
         place,
         qp,

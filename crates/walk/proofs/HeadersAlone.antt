@@ -56,7 +56,7 @@ front-reads t u c d h l = go (begun u) refl h
 
 -- ---- a list of units
 
-reads-all : (t : Table) (m : ℕ) (c d : List ℕ) (us : List Span) → longestSet us ≤ length c → Short m us → m ≤ length d → reportsOf unitFront t c us ≡ reportsOf unitRead t d us
+pub reads-all : (t : Table) (m : ℕ) (c d : List ℕ) (us : List Span) → longestSet us ≤ length c → Short m us → m ≤ length d → reportsOf unitFront t c us ≡ reportsOf unitRead t d us
 reads-all t m c d [] h k l = refl
 reads-all t m c d (u ∷ us) h k l =
     let w = k .0 in

@@ -1,4 +1,4 @@
--- The walk that reads headers alone: slices and prefix units are read from the recording itself, and scratch is for parameter sets (types 7 and 8).
+-- The walk that reads headers alone (docs/RULES.md, 'The walk'): slices and prefix units are read from the recording itself, and scratch is for parameter sets (types 7 and 8).
 use Prim.Native.Nat.{ℕ, max}
 use mathlib.Core.List.{List, [], _∷_}
 use lib.ListN.{length}

@@ -1,9 +1,11 @@
-//! `import tuzmarghil`: the units of a recording as plain objects, their kinds alone, and QP as an array.
+//! `import tuzmarghil`: the units of a recording as plain objects, their kinds alone, its exposures, and QP as an array.
 
-use ::tuzmarghil::{container, NalHeaderExtension, Stream, StreamHead, StreamReport, Table, Unit};
+use ::tuzmarghil::{
+    container, NalHeaderExtension, Stream, StreamExposures, StreamHead, StreamReport, Table, Unit,
+};
 use pyo3::exceptions::{PyOSError, PyValueError};
 use pyo3::prelude::*;
-use pyo3::types::PyBytes;
+use pyo3::types::{PyBytes, PyDict};
 use std::fs::File;
 use std::io::{Chain, Cursor, Read};
 use std::path::{Path, PathBuf};
@@ -219,8 +221,74 @@ fn kind(unit: &StreamHead<'_>) -> Kind {
     }
 }
 
+/// A picture as a stacker weighs it.
+#[pyclass(frozen, module = "tuzmarghil")]
+struct Exposure(::tuzmarghil::Exposure);
+
+#[pymethods]
+impl Exposure {
+    /// From 1 on.
+    #[getter]
+    fn number(&self) -> u64 {
+        self.0.number
+    }
+
+    /// Where its first slice's unit begins, after its start code.
+    #[getter]
+    fn place(&self) -> u64 {
+        self.0.place
+    }
+
+    /// How many slices it has.
+    #[getter]
+    fn slices(&self) -> u64 {
+        self.0.slices
+    }
+
+    /// The least, the mean and the greatest final QP of its slices.
+    #[getter]
+    fn qp_least(&self) -> i64 {
+        self.0.qp_least
+    }
+
+    #[getter]
+    fn qp_mean(&self) -> f64 {
+        self.0.qp_mean
+    }
+
+    #[getter]
+    fn qp_greatest(&self) -> i64 {
+        self.0.qp_greatest
+    }
+
+    #[getter]
+    fn frame_num(&self) -> u32 {
+        self.0.frame_num
+    }
+
+    /// Frames are missing before it.
+    #[getter]
+    fn gap(&self) -> bool {
+        self.0.gap
+    }
+
+    /// Refused units behind the first slice of the exposure before, or the recording's start, and before its own.
+    #[getter]
+    fn refused_before(&self) -> u64 {
+        self.0.refused_before
+    }
+
+    fn __repr__(&self) -> String {
+        let e = &self.0;
+        let (place, slices, frame) = (e.place, e.slices, e.frame_num);
+        let mean = e.qp_mean;
+        format!("<tuzmarghil.Exposure number={} place={place} slices={slices} qp_mean={mean:.2} frame_num={frame}>", e.number)
+    }
+}
+
 /// A recording's file, its front looked at.
-type Recording = Stream<Chain<Cursor<Vec<u8>>, File>>;
+type Source = Chain<Cursor<Vec<u8>>, File>;
+type Recording = Stream<Source>;
 
 /// The recording, by a table to start with, and its name for messages.
 fn open(path: &Path, table: Table) -> PyResult<(Recording, String)> {
@@ -256,6 +324,47 @@ impl Kinds {
         let step = self.stream.next_head();
         let step = step.map_err(|e| PyOSError::new_err(format!("{name}: {e}")))?;
         Ok(step.map(|unit| kind(&unit)))
+    }
+}
+
+/// The exposures of a recording, one after the other.
+#[pyclass(module = "tuzmarghil")]
+struct Exposures {
+    found: StreamExposures<Source>,
+    name: String,
+}
+
+#[pymethods]
+impl Exposures {
+    fn __iter__(slf: PyRef<'_, Self>) -> PyRef<'_, Self> {
+        slf
+    }
+
+    fn __next__(&mut self, py: Python<'_>) -> PyResult<Option<Exposure>> {
+        py.check_signals()?;
+        let name = &self.name;
+        let step = self.found.next().transpose();
+        let step = step.map_err(|e| PyOSError::new_err(format!("{name}: {e}")))?;
+        Ok(step.map(Exposure))
+    }
+
+    /// What was taken so far, at the end all of it, as a dict: exposures, gaps, slices, redundant, refused, prefixes, views and others.
+    #[getter]
+    fn totals<'a>(&self, py: Python<'a>) -> PyResult<&'a PyDict> {
+        let (t, told) = (self.found.totals(), PyDict::new(py));
+        for (name, count) in [
+            ("exposures", t.exposures),
+            ("gaps", t.gaps),
+            ("slices", t.slices),
+            ("redundant", t.redundant),
+            ("refused", t.refused),
+            ("prefixes", t.prefixes),
+            ("views", t.views),
+            ("others", t.others),
+        ] {
+            told.set_item(name, count)?;
+        }
+        Ok(told)
     }
 }
 
@@ -323,6 +432,14 @@ fn kinds(path: PathBuf) -> PyResult<Kinds> {
     Ok(Kinds { stream, name })
 }
 
+/// The exposures of a recording, that is its pictures, as an iterator of plain objects, whose `totals` counts what was taken. `table` as in `reports`.
+#[pyfunction]
+fn exposures(path: PathBuf, table: Option<&str>) -> PyResult<Exposures> {
+    let (stream, name) = open(&path, table_of(table)?)?;
+    let found = stream.exposures();
+    Ok(Exposures { found, name })
+}
+
 /// The final QP of each slice, and NaN for each refused unit, in their order: an array.array of doubles, which numpy.asarray takes without a copy.
 #[pyfunction]
 fn qp(py: Python<'_>, path: PathBuf, table: Option<&str>) -> PyResult<PyObject> {
@@ -355,7 +472,10 @@ fn tuzmarghil(_: Python<'_>, module: &PyModule) -> PyResult<()> {
     module.add_class::<Reports>()?;
     module.add_class::<Kind>()?;
     module.add_class::<Kinds>()?;
+    module.add_class::<Exposure>()?;
+    module.add_class::<Exposures>()?;
     module.add_function(wrap_pyfunction!(reports, module)?)?;
     module.add_function(wrap_pyfunction!(kinds, module)?)?;
+    module.add_function(wrap_pyfunction!(exposures, module)?)?;
     module.add_function(wrap_pyfunction!(qp, module)?)
 }

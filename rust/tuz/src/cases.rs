@@ -5,18 +5,25 @@ use crate::output::Stdout;
 use crate::{answer, stop, words};
 use anyhow::{ensure, Context, Result};
 use std::io::{BufRead, Read};
-use tuzmarghil::raw::Words;
-use tuzmarghil::{write_header, Reading, Table, Unit, UnitReader};
+use tuzmarghil::raw::{self, WalkOut, Words};
+use tuzmarghil::{to_start_codes, write_header, Reading, Table, Unit, UnitReader};
 
 /// The greatest length of a case: a unit of some 8 MiB, in hex.
 const LINE: u64 = 16 << 20;
 
-pub fn run(cases: &mut impl BufRead, rewrite: bool, to: &mut Stdout) -> Result<()> {
+/// What is done with each case besides.
+pub struct More {
+    pub rewrite: bool,
+    pub headers: bool,
+}
+
+pub fn run(cases: &mut impl BufRead, more: &More, to: &mut Stdout) -> Result<()> {
     let mut table = Table::new();
     // the words that the table was made of
     let mut made = String::new();
     let (mut line, mut unit) = (Vec::new(), Vec::new());
     let (mut said, mut reader) = (Vec::new(), UnitReader::default());
+    let mut walks = [Walk::framed(), Walk::coded()];
     for number in 1u64.. {
         stop::check()?;
         line.clear();
@@ -55,11 +62,75 @@ pub fn run(cases: &mut impl BufRead, rewrite: bool, to: &mut Stdout) -> Result<(
         answer::write(&unit, read, words, None, &mut form);
         said.push(b'\n');
         to.write(&said)?;
-        if rewrite && read.answer == 1 {
+        if more.rewrite && read.answer == 1 {
             rewritten(&table, &reading).with_context(place)?;
+        }
+        if more.headers {
+            for walk in &mut walks {
+                walk.compare(&table, &reading).with_context(place)?;
+            }
         }
     }
     Ok(())
+}
+
+/// A walk that reads headers alone, over recordings of one unit each.
+struct Walk {
+    step: Step,
+    framed: bool,
+    words: Words,
+    out: WalkOut,
+}
+
+type Step = fn(&mut raw::Table, &[u8], usize, &mut [u8], &mut Words, &mut WalkOut);
+
+impl Walk {
+    fn framed() -> Walk {
+        Walk {
+            step: raw::walk_framed_headers,
+            framed: true,
+            words: Words::default(),
+            out: WalkOut::default(),
+        }
+    }
+
+    fn coded() -> Walk {
+        Walk {
+            step: raw::walk_headers,
+            framed: false,
+            ..Walk::framed()
+        }
+    }
+
+    /// Walks over the unit, with scratch for a parameter set alone. It must answer as reading it did, and leave the same words and the table that the answer makes.
+    fn compare(&mut self, table: &Table, reading: &Reading<'_>) -> Result<()> {
+        let (unit, (read, words)) = (reading.bytes(), reading.raw());
+        let mut recording = (unit.len() as u32).to_be_bytes().to_vec();
+        recording.extend_from_slice(unit);
+        if !self.framed {
+            match to_start_codes(&recording) {
+                Ok(coded) => recording = coded,
+                // no start code can stand before it; the next one is read with its words
+                Err(_) => {
+                    self.words.clone_from(words);
+                    return Ok(());
+                }
+            }
+        }
+        let set = unit.first().map_or(false, |b| matches!(b & 31, 7 | 8));
+        let mut scratch = vec![0; if set { unit.len() } else { 0 }];
+        let (mut after, mut put) = (*table.as_raw(), *table.as_raw());
+        let (words_after, out) = (&mut self.words, &mut self.out);
+        (self.step)(&mut after, &recording, 0, &mut scratch, words_after, out);
+        raw::put_read(&mut put, read);
+        let place = (out.step, out.place, out.length, out.next);
+        let whole = (1, 4, unit.len(), recording.len());
+        ensure!(place == whole, "the walk comes to another unit");
+        ensure!(out.read == *read, "headers alone answer otherwise");
+        ensure!(self.words == *words, "headers alone leave other words");
+        ensure!(after == put, "headers alone leave another table");
+        Ok(())
+    }
 }
 
 /// Gives the header that was read Rust's types, takes it back to words, writes those, and compares: the words, the answer, the bits, and what is left as it was.

@@ -9,7 +9,7 @@ struct Refused(u32, &'static str, &'static str, &'static str);
 const TORN: &str = "the unit is damaged";
 const OTHER_SETS: &str = "the unit is damaged, or a parameter set before it is lost or damaged";
 
-const REFUSALS: [Refused; 29] = [
+const REFUSALS: [Refused; 31] = [
     Refused(
         1,
         "the unit has no byte",
@@ -164,10 +164,22 @@ const REFUSALS: [Refused; 29] = [
         "the set is damaged; it leaves the table as it was",
     ),
     Refused(
+        29,
+        "framed by length: fewer bytes are left than a length says, or than it has",
+        "the place of the length",
+        "the recording is cut off there, or a length before is damaged; or its units stand behind start codes",
+    ),
+    Refused(
         34,
         "the head is not the unit's own",
         "0",
         "only a program that calls the library can meet it",
+    ),
+    Refused(
+        35,
+        "the unit holds 00 00 00 or 00 00 01, or ends with a zero byte, so start codes cannot carry it",
+        "the place of its first byte",
+        "only converting gives it: the unit is damaged, or has zero bytes behind its end",
     ),
 ];
 
@@ -193,7 +205,7 @@ pub fn told(number: Option<u32>) -> Result<String> {
             }
         }
         Some(number) => match REFUSALS.iter().find(|r| r.0 == number) {
-            None => bail!("{number} is no refusal: they are 1 to 28 and 34"),
+            None => bail!("{number} is no refusal: they are 1 to 29, 34 and 35"),
             Some(Refused(n, why, value, often)) => {
                 let bit = place(*n);
                 let _ = write!(
@@ -215,7 +227,7 @@ mod tests {
     #[test]
     fn every_number_is_explained() {
         let numbers: Vec<_> = REFUSALS.iter().map(|r| r.0).collect();
-        assert_eq!(numbers, (1..=28).chain([34]).collect::<Vec<_>>());
+        assert_eq!(numbers, (1..=29).chain([34, 35]).collect::<Vec<_>>());
         for n in 0..256 {
             let explained = Refusal::new(n, 7).reason() != "value 7";
             assert_eq!(numbers.contains(&n), explained, "{n}");

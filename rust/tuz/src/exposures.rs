@@ -2,7 +2,7 @@
 
 use crate::band::Band;
 use crate::form::Format;
-use crate::input::{Clip, Each, Recording};
+use crate::input::{Clip, Each, Framing, Passed};
 use crate::output::{Output, Stdout};
 use crate::sets::Sets;
 use crate::totals::Totals;
@@ -11,7 +11,7 @@ use crate::Ending;
 use anyhow::Result;
 use std::fmt::Write;
 use std::path::Path;
-use tuzmarghil::{Exposure, Stacker, Stream, StreamReport};
+use tuzmarghil::{Exposure, Stacker, StreamReport};
 
 const COLUMNS: &str =
     "number,place,slices,qp_least,qp_mean,qp_greatest,frame_num,gap,refused_before\n";
@@ -19,13 +19,14 @@ const COLUMNS: &str =
 /// Runs it; the exit status.
 pub fn run(
     clip: &Clip,
+    framing: Framing,
     format: Format,
     plot: Option<&Path>,
     ending: &Ending,
     out: &mut Stdout,
 ) -> Result<u8> {
     let table = clip.table()?;
-    let recording = clip.open()?;
+    let recording = clip.open_by(framing)?;
     let plot = Output::open(&clip.inputs(), &[plot])?.pop().flatten();
     let mut pictures = Pictures {
         name: clip.name(),
@@ -42,11 +43,11 @@ pub fn run(
         plot,
         out,
     };
-    recording.units(table, ending.quiet, &mut pictures)?;
+    let passed = recording.units(table, ending.quiet, &mut pictures, Pictures::take)?;
     if !pictures.wanted() {
         return Ok(0);
     }
-    pictures.end(ending.quiet)
+    pictures.end(&passed, ending.quiet)
 }
 
 struct Pictures<'a> {
@@ -66,21 +67,16 @@ struct Pictures<'a> {
 }
 
 impl Each for Pictures<'_> {
-    fn unit(&mut self, stream: &mut Stream<Recording>) -> Result<bool> {
-        match stream.next_unit_at_hand() {
-            None => Ok(false),
-            Some(report) => self.take(&report).map(|()| true),
-        }
+    fn out(&mut self) -> &mut Stdout {
+        self.out
     }
 
-    fn pause(&mut self) -> Result<()> {
-        self.out.flush_lines()
+    fn strict(&self) -> bool {
+        self.strict
     }
 
-    /// A closed standard output ends the printing, not the work: a file, and what the exit status tells.
-    fn wanted(&self) -> bool {
-        let file = self.plot.as_ref().map_or(false, |to| !to.is_stdout());
-        !self.out.closed() || self.strict || file
+    fn files(&self) -> bool {
+        self.plot.as_ref().map_or(false, |to| !to.is_stdout())
     }
 }
 
@@ -142,8 +138,11 @@ impl Pictures<'_> {
     }
 
     /// All units were taken: the last exposure, the file, the totals.
-    fn end(mut self, quiet: bool) -> Result<u8> {
+    fn end(mut self, passed: &Passed, quiet: bool) -> Result<u8> {
         self.begin()?;
+        if let Some(refusal) = passed.broken {
+            eprintln!("tuz: {}: {refusal}", self.name);
+        }
         if let Some(last) = self.stacker.finish() {
             self.tell(&last)?;
         }
@@ -162,6 +161,7 @@ impl Pictures<'_> {
                 self.name, t.exposures, t.gaps, t.refused, t.redundant, t.views
             );
         }
-        Ok(u8::from(self.strict && t.refused > 0))
+        let refused = t.refused > 0 || passed.broken.is_some();
+        Ok(u8::from(self.strict && refused))
     }
 }

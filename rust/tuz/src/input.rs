@@ -1,15 +1,15 @@
 //! Recordings and tables from files or standard input, with messages that name the file and the cause.
 
-use crate::output::Input;
+use crate::output::{Input, Stdout};
 use crate::{shown, stop, words};
 use anyhow::{bail, ensure, Context, Result};
-use clap::Args;
+use clap::{Args, ValueEnum};
 use indicatif::{ProgressBar, ProgressStyle};
 use std::fs::{self, File};
 use std::io::{self, BufRead, BufReader, Cursor, ErrorKind, Read};
 use std::path::{Path, PathBuf};
-use tuzmarghil::{container, container_needs, CONTAINER_LOOK};
-use tuzmarghil::{Stream, Table, LIMIT};
+use tuzmarghil::{container, container_needs, in_container, looks_framed, CONTAINER_LOOK};
+use tuzmarghil::{LengthFramed, Refusal, Stream, StreamHead, StreamReport, Table, LIMIT};
 
 /// The sample sets of the rules, both with id 0.
 const SAMPLE: &str = "sps:0:1:0:0:4:2:0:0:1:99 pps:0:0:0:0:0:0:0:0:0:0:0:0:0";
@@ -26,7 +26,7 @@ const TABLE: u64 = 1 << 20;
 /// A recording, and the sets that the walk starts with.
 #[derive(Args)]
 pub struct Clip {
-    /// The recording, with start codes; `-` is standard input
+    /// The recording; `-` is standard input
     clip: PathBuf,
     /// Parameter sets to start with, for a recording that lacks them: a file of `sps:` and `pps:` words, separated by white space
     #[arg(long, value_name = "FILE", conflicts_with = "sample")]
@@ -42,7 +42,7 @@ pub struct Clip {
 /// A recording alone.
 #[derive(Args)]
 pub struct Bare {
-    /// The recording, with start codes; `-` is standard input
+    /// The recording; `-` is standard input
     clip: PathBuf,
     /// Read it as a byte stream whatever it looks like
     #[arg(long)]
@@ -60,14 +60,41 @@ impl From<&Bare> for Clip {
     }
 }
 
-/// What is done with each unit.
+/// What stands before each unit of a recording.
+#[derive(Args, Clone, Copy)]
+pub struct Framing {
+    /// What stands before each unit
+    #[arg(long, value_enum, default_value = "start-codes")]
+    framing: By,
+}
+
+#[derive(Clone, Copy, ValueEnum)]
+enum By {
+    /// 00 00 01
+    StartCodes,
+    /// Its length, 4 bytes
+    Length,
+    /// What the first units look like, which is told on standard error
+    Auto,
+}
+
+/// What is done with the units of a recording, one after the other.
 pub trait Each {
-    /// Takes the next unit, if it has come whole.
-    fn unit(&mut self, stream: &mut Stream<Recording>) -> Result<bool>;
-    /// More must be read: whoever waits gets the lines that are there.
-    fn pause(&mut self) -> Result<()>;
-    /// Whether anything is left to be done.
-    fn wanted(&self) -> bool;
+    /// Where their lines go.
+    fn out(&mut self) -> &mut Stdout;
+
+    /// Whether the exit status tells of refused units.
+    fn strict(&self) -> bool;
+
+    /// Whether a file is written besides.
+    fn files(&self) -> bool {
+        false
+    }
+
+    /// Whether anything is left to be done. A closed standard output ends the printing, not the work: files, and what the exit status tells.
+    fn wanted(&mut self) -> bool {
+        !self.out().closed() || self.strict() || self.files()
+    }
 }
 
 impl Clip {
@@ -99,23 +126,54 @@ impl Clip {
         }
     }
 
-    /// The recording, once its beginning looks like one.
+    /// The recording, once its beginning looks like one with start codes.
     pub fn open(&self) -> Result<Recording> {
+        self.opened(By::StartCodes)
+    }
+
+    /// The recording, framed by length.
+    pub fn open_framed(&self) -> Result<Recording> {
+        self.opened(By::Length)
+    }
+
+    /// The recording, framed as is asked for.
+    pub fn open_by(&self, framing: Framing) -> Result<Recording> {
+        self.opened(framing.framing)
+    }
+
+    fn opened(&self, by: By) -> Result<Recording> {
         let mut source = open(&self.clip)?;
         let mut front = Vec::new();
         let whole = look(&mut source, &mut front).with_context(|| self.name())?;
         ensure!(!front.is_empty(), "{}: is empty", self.name());
-        let told = container(&front, whole);
+        let framed = match by {
+            By::StartCodes => false,
+            By::Length => true,
+            By::Auto => in_container(&front).is_none() && looks_framed(&front, whole),
+        };
+        let told = match framed {
+            true => in_container(&front),
+            false => container(&front, whole),
+        };
         if let (Some(told), false) = (told, self.force) {
             bail!("{}: {told}; --force reads it all the same", self.name());
         }
+        if let By::Auto = by {
+            let how = match framed {
+                true => "lengths of 4 bytes (--framing length)",
+                false => "start codes (--framing start-codes)",
+            };
+            eprintln!("tuz: {}: units stand behind {how}", self.name());
+        }
         Ok(Recording {
+            framed,
             name: self.name(),
             length: fs::metadata(&self.clip).map_or(0, |m| m.len()),
             source: Box::new(Cursor::new(front).chain(source)),
             force: self.force,
             passed: 0,
-            seen: false,
+            // a start code is looked for where one is needed
+            seen: framed,
             last: [255; 2],
         })
     }
@@ -138,6 +196,8 @@ fn look(source: &mut dyn Read, front: &mut Vec<u8>) -> io::Result<bool> {
 
 /// A recording that is open. It looks for a start code as it is read: without one, all of it is in no unit.
 pub struct Recording {
+    /// By length, not by start codes.
+    framed: bool,
     name: String,
     length: u64,
     source: Box<dyn Read>,
@@ -147,10 +207,98 @@ pub struct Recording {
     last: [u8; 2],
 }
 
+/// The recording's units, one after the other.
+enum Units {
+    Coded(Box<Stream<Recording>>),
+    Framed(Box<LengthFramed<Recording>>),
+}
+
+impl Units {
+    fn new(recording: Recording, table: Table) -> Units {
+        match recording.framed {
+            true => Units::Framed(Box::new(LengthFramed::with_table(recording, table))),
+            false => Units::Coded(Box::new(Stream::with_table(recording, table))),
+        }
+    }
+
+    fn next_unit_at_hand(&mut self) -> Option<StreamReport<'_>> {
+        match self {
+            Units::Coded(stream) => stream.next_unit_at_hand(),
+            Units::Framed(stream) => stream.next_unit_at_hand(),
+        }
+    }
+
+    fn next_head_at_hand(&mut self) -> Option<StreamHead<'_>> {
+        match self {
+            Units::Coded(stream) => stream.next_head_at_hand(),
+            Units::Framed(stream) => stream.next_head_at_hand(),
+        }
+    }
+
+    fn read_more(&mut self) -> io::Result<bool> {
+        match self {
+            Units::Coded(stream) => stream.read_more(),
+            Units::Framed(stream) => stream.read_more(),
+        }
+    }
+
+    /// How far it is read, and refusal 29 where that is what ended it.
+    fn passed(&self) -> Passed {
+        match self {
+            Units::Coded(stream) => Passed {
+                bytes: stream.position(),
+                broken: None,
+            },
+            Units::Framed(stream) => Passed {
+                bytes: stream.position(),
+                broken: stream.broken(),
+            },
+        }
+    }
+}
+
+/// What a recording came to: its length in bytes, and the broken length that ended it, if one did.
+pub struct Passed {
+    pub bytes: u64,
+    pub broken: Option<Refusal>,
+}
+
 impl Recording {
-    /// Hands each unit to `each`, by a table to start with, and with a bar on a terminal where the recording is long and the lines go elsewhere. Gives its length in
-    /// bytes.
-    pub fn units(self, table: Table, quiet: bool, each: &mut impl Each) -> Result<u64> {
+    /// Hands each unit to `each` by `take`, with a table to start with.
+    pub fn units<E: Each>(
+        self,
+        table: Table,
+        quiet: bool,
+        each: &mut E,
+        take: fn(&mut E, &StreamReport<'_>) -> Result<()>,
+    ) -> Result<Passed> {
+        self.steps(table, quiet, each, |each, units| {
+            let unit = units.next_unit_at_hand();
+            unit.map(|unit| take(each, &unit)).transpose()
+        })
+    }
+
+    /// The same, with the units' heads alone.
+    pub fn heads<E: Each>(
+        self,
+        quiet: bool,
+        each: &mut E,
+        take: fn(&mut E, &StreamHead<'_>) -> Result<()>,
+    ) -> Result<Passed> {
+        self.steps(Table::new(), quiet, each, |each, units| {
+            let unit = units.next_head_at_hand();
+            unit.map(|unit| take(each, &unit)).transpose()
+        })
+    }
+
+    /// Takes unit after unit by `step`, which says nothing where more must be read. A bar is shown on a terminal where the recording is long and the lines go elsewhere.
+    fn steps<E: Each>(
+        self,
+        table: Table,
+        quiet: bool,
+        each: &mut E,
+        step: impl Fn(&mut E, &mut Units) -> Result<Option<()>>,
+    ) -> Result<Passed> {
         let bar = match self.length {
             0..=LONG => ProgressBar::hidden(),
             // the lines themselves show it
@@ -161,23 +309,25 @@ impl Recording {
             }
         };
         let (name, mut told) = (self.name.clone(), 0);
-        let mut stream = Stream::with_table(self, table);
+        let mut units = Units::new(self, table);
         while each.wanted() {
             stop::check()?;
-            if each.unit(&mut stream)? {
+            if step(each, &mut units)?.is_some() {
                 continue;
             }
-            each.pause()?;
-            if !stream.read_more().with_context(|| name.clone())? {
+            // whoever waits gets the lines that are there
+            each.out().flush_lines()?;
+            if !units.read_more().with_context(|| name.clone())? {
                 break;
             }
-            if stream.position() > told + LONG {
-                told = stream.position();
+            let passed = units.passed().bytes;
+            if passed > told + LONG {
+                told = passed;
                 bar.set_position(told);
             }
         }
         bar.finish_and_clear();
-        Ok(stream.position())
+        Ok(units.passed())
     }
 
     /// The whole recording.

@@ -2,13 +2,13 @@
 
 use crate::answer::{self, KINDS};
 use crate::form::{self, Format};
-use crate::input::{Clip, Each, Recording};
+use crate::input::{Clip, Each};
 use crate::output::Stdout;
 use crate::Ending;
 use anyhow::Result;
 use std::fmt::Write;
 use tuzmarghil::raw;
-use tuzmarghil::{Stream, StreamHead, Table};
+use tuzmarghil::StreamHead;
 
 /// Runs it; the exit status.
 pub fn run(clip: &Clip, format: Format, ending: &Ending, out: &mut Stdout) -> Result<u8> {
@@ -24,13 +24,13 @@ pub fn run(clip: &Clip, format: Format, ending: &Ending, out: &mut Stdout) -> Re
         within: 0,
         out,
     };
-    let bytes = recording.units(Table::new(), ending.quiet, &mut kinds)?;
+    let passed = recording.heads(ending.quiet, &mut kinds, Kinds::take)?;
     if !kinds.wanted() {
         return Ok(0);
     }
     kinds.end()?;
     if !ending.quiet {
-        eprintln!("{}: {}", clip.name(), kinds.told(bytes));
+        eprintln!("{}: {}", clip.name(), kinds.told(passed.bytes));
     }
     Ok(u8::from(ending.strict && kinds.refused > 0))
 }
@@ -49,19 +49,12 @@ struct Kinds<'a> {
 }
 
 impl Each for Kinds<'_> {
-    fn unit(&mut self, stream: &mut Stream<Recording>) -> Result<bool> {
-        match stream.next_head_at_hand() {
-            None => Ok(false),
-            Some(unit) => self.take(&unit).map(|()| true),
-        }
+    fn out(&mut self) -> &mut Stdout {
+        self.out
     }
 
-    fn pause(&mut self) -> Result<()> {
-        self.out.flush_lines()
-    }
-
-    fn wanted(&self) -> bool {
-        !self.out.closed() || self.strict
+    fn strict(&self) -> bool {
+        self.strict
     }
 }
 

@@ -3,6 +3,7 @@
 mod answer;
 mod band;
 mod cases;
+mod convert;
 mod explain;
 mod exposures;
 mod form;
@@ -23,7 +24,7 @@ use anyhow::{Context, Result};
 use clap::{CommandFactory, FromArgMatches, Parser, Subcommand};
 use clap_complete::Shell;
 use form::Format;
-use input::{Bare, Clip};
+use input::{Bare, Clip, Framing};
 use output::{Input, Output, Stdout};
 use std::path::{Path, PathBuf};
 use std::process::ExitCode;
@@ -41,6 +42,8 @@ Examples:
   tuz headers night.264 --format csv > night.csv
   tuz qp night.264 --plot night.svg
   tuz exposures night.264 --format csv > exposures.csv
+  tuz list guide.bin --framing length
+  tuz convert guide.bin -o guide.264 --to start-codes
   tuz tear night.264 -o torn.264 --at 70000 --length 512
   ffmpeg -i in.mp4 -c copy -bsf:v h264_mp4toannexb -f h264 - | tuz list -
   tuz table night.264 > camera.txt; tuz list rest-of-the-night.264 --table camera.txt
@@ -63,6 +66,8 @@ enum What {
         #[command(flatten)]
         clip: Clip,
         #[command(flatten)]
+        framing: Framing,
+        #[command(flatten)]
         form: Form,
         #[command(flatten)]
         ending: Ending,
@@ -71,6 +76,8 @@ enum What {
     Headers {
         #[command(flatten)]
         clip: Clip,
+        #[command(flatten)]
+        framing: Framing,
         #[command(flatten)]
         form: Form,
         #[command(flatten)]
@@ -90,6 +97,8 @@ enum What {
         #[command(flatten)]
         clip: Clip,
         #[command(flatten)]
+        framing: Framing,
+        #[command(flatten)]
         form: Form,
         /// A row for each slice and each refused unit; `-` is standard output
         #[arg(long, value_name = "FILE")]
@@ -105,6 +114,8 @@ enum What {
         #[command(flatten)]
         clip: Clip,
         #[command(flatten)]
+        framing: Framing,
+        #[command(flatten)]
         form: Form,
         /// QP by exposure as SVG, with a band from least to greatest; missing frames and refused units stand out; `-` is standard output
         #[arg(long, value_name = "FILE.svg")]
@@ -119,6 +130,8 @@ enum What {
         #[command(flatten)]
         ending: Ending,
     },
+    /// Puts start codes in place of lengths, or lengths in place of start codes
+    Convert(convert::Convert),
     /// Damages a clip, and says what reading it must then give
     Tear(tear::Tear),
     /// One answer line for each case line, so that two programs' answers are compared by `diff`
@@ -139,10 +152,13 @@ Example:
         /// Write each slice header that was read, and stop where its bits do not come back
         #[arg(long)]
         rewrite: bool,
+        /// Walk over each unit with headers alone too, and stop where that answers otherwise
+        #[arg(long)]
+        headers: bool,
     },
     /// What a refusal's number means; without a number, all of them
     Explain {
-        /// The number, 1 to 28 or 34
+        /// The number, 1 to 29, 34 or 35
         #[arg(value_name = "N")]
         number: Option<u32>,
     },
@@ -174,10 +190,17 @@ pub struct Ending {
     quiet: bool,
 }
 
-fn asked<'a>(kind: Kind, clip: &'a Clip, form: &Form, ending: &'a Ending) -> Asked<'a> {
+fn asked<'a>(
+    kind: Kind,
+    clip: &'a Clip,
+    framing: Framing,
+    form: &Form,
+    ending: &'a Ending,
+) -> Asked<'a> {
     Asked {
         kind,
         clip,
+        framing,
         format: form.format,
         csv: None,
         plot: None,
@@ -187,35 +210,51 @@ fn asked<'a>(kind: Kind, clip: &'a Clip, form: &Form, ending: &'a Ending) -> Ask
 
 fn run(args: &Args, out: &mut Stdout) -> Result<u8> {
     match &args.what {
-        What::List { clip, form, ending } => {
-            units::run(&asked(Kind::List, clip, form, ending), out)
-        }
-        What::Headers { clip, form, ending } => {
-            units::run(&asked(Kind::Headers, clip, form, ending), out)
-        }
+        What::List {
+            clip,
+            framing,
+            form,
+            ending,
+        } => units::run(&asked(Kind::List, clip, *framing, form, ending), out),
+        What::Headers {
+            clip,
+            framing,
+            form,
+            ending,
+        } => units::run(&asked(Kind::Headers, clip, *framing, form, ending), out),
         What::Kinds { clip, form, ending } => {
             kinds::run(&Clip::from(clip), form.format, ending, out)
         }
         What::Qp {
             clip,
+            framing,
             form,
             csv,
             plot,
             ending,
         } => {
             let (csv, plot) = (csv.as_deref(), plot.as_deref());
-            let asked = asked(Kind::Qp, clip, form, ending);
+            let asked = asked(Kind::Qp, clip, *framing, form, ending);
             units::run(&Asked { csv, plot, ..asked }, out)
         }
         What::Exposures {
             clip,
+            framing,
             form,
             plot,
             ending,
-        } => exposures::run(clip, form.format, plot.as_deref(), ending, out),
+        } => exposures::run(clip, *framing, form.format, plot.as_deref(), ending, out),
         What::Table { clip, ending } => sets::run(&Clip::from(clip), ending, out),
+        What::Convert(convert) => convert::run(convert, out).map(|()| 0),
         What::Tear(tear) => tear::run(tear, out).map(|()| 0),
-        What::Cases { file, rewrite } => cases_of(file, *rewrite, out).map(|()| 0),
+        What::Cases {
+            file,
+            rewrite,
+            headers,
+        } => {
+            let (rewrite, headers) = (*rewrite, *headers);
+            cases_of(file, &cases::More { rewrite, headers }, out).map(|()| 0)
+        }
         What::Explain { number } => {
             out.write(explain::told(*number)?.as_bytes())?;
             Ok(0)
@@ -231,7 +270,7 @@ fn run(args: &Args, out: &mut Stdout) -> Result<u8> {
     }
 }
 
-fn cases_of(file: &Path, rewrite: bool, out: &mut Stdout) -> Result<()> {
+fn cases_of(file: &Path, more: &cases::More, out: &mut Stdout) -> Result<()> {
     let input = Input {
         what: "the cases",
         path: file,
@@ -239,7 +278,7 @@ fn cases_of(file: &Path, rewrite: bool, out: &mut Stdout) -> Result<()> {
     let mut lines = input::lines(file)?;
     Output::open(&[input], &[])?;
     let name = || shown::name(file, "standard input");
-    cases::run(&mut lines, rewrite, out).with_context(name)
+    cases::run(&mut lines, more, out).with_context(name)
 }
 
 /// The command's definition, with its version: that of the program, the kit that proved the library, and the library's layout.

@@ -52,6 +52,7 @@ pub fn page(command: &mut Command) -> Result<String> {
         }
     }
     section(&mut to, "FORMATS");
+    section(&mut to, "FRAMING");
     section(&mut to, "TABLES");
     to += ".SH REFUSALS\n";
     example(&mut to, &explain::told(None)?);

@@ -13,12 +13,82 @@ pub const BOTTOM: f64 = 372.0;
 const COLOURS: [&str; 5] = ["#1F77B4", "#2C8C2C", "#E67800", "#8C564B", "#9467BD"];
 pub const TORN: &str = "#D60000";
 
-/// No more columns are kept than this, however many slices there are.
+/// No more columns are kept than this, however many things there are.
 const COLUMNS: usize = 2048;
 
-/// What falls on one column of the picture.
+/// What falls on one column of a picture.
+pub trait Column: Copy {
+    /// Where the first of it stands in the recording.
+    fn place(&self) -> u64;
+    fn join(self, next: Self) -> Self;
+}
+
+/// Things one after the other, whatever lies between them in the recording; where there are many, several in a column.
+pub struct Columns<C> {
+    all: Vec<C>,
+    /// how many of them a column holds, and the last one
+    step: u64,
+    in_last: u64,
+    pub count: u64,
+}
+
+impl<C> Default for Columns<C> {
+    fn default() -> Columns<C> {
+        Columns {
+            all: Vec::new(),
+            step: 1,
+            in_last: 0,
+            count: 0,
+        }
+    }
+}
+
+impl<C: Column> Columns<C> {
+    pub fn take(&mut self, column: C) {
+        self.count += 1;
+        match self.all.last_mut() {
+            Some(last) if self.in_last < self.step => {
+                *last = last.join(column);
+                self.in_last += 1;
+                return;
+            }
+            _ => {}
+        }
+        if self.all.len() == COLUMNS {
+            let pairs = self.all.chunks(2);
+            self.all = pairs.map(|p| p[0].join(p[1])).collect();
+            self.step *= 2;
+        }
+        self.all.push(column);
+        self.in_last = 1;
+    }
+
+    /// How many columns there are.
+    pub fn len(&self) -> usize {
+        self.all.len()
+    }
+
+    /// Each with the number of its first thing, from 0 on.
+    pub fn iter(&self) -> impl Iterator<Item = (u64, &C)> {
+        self.all.iter().zip(0..).map(|(c, i)| (i * self.step, c))
+    }
+
+    /// The order of the things, and where they stand in the recording.
+    pub fn axis(&self, svg: &mut Svg, none: &str, some: &str) {
+        let step = nice(svg.count as f64 / 8.0).max(1);
+        let ticks = (1..).map(|k| k * step - 1).take_while(|i| *i < self.count);
+        let first = (self.count > 0).then_some(0);
+        for i in first.into_iter().chain(ticks.filter(|i| *i > 0)) {
+            let place = self.all[(i / self.step) as usize].place();
+            svg.tick(i, &(i + 1).to_string(), &grouped(place));
+        }
+        svg.below(if self.count == 0 { none } else { some });
+    }
+}
+
+/// Slices and refused units.
 #[derive(Clone, Copy, Default)]
-struct Column {
+struct Units {
     place: u64,
     /// the least and the greatest QP of each slice type
     ends: [Option<(i64, i64)>; 5],
@@ -27,8 +97,12 @@ struct Column {
     number: u32,
 }
 
-impl Column {
-    fn join(self, next: Column) -> Column {
+impl Column for Units {
+    fn place(&self) -> u64 {
+        self.place
+    }
+
+    fn join(self, next: Units) -> Units {
         let mut both = self;
         for (mine, other) in both.ends.iter_mut().zip(next.ends) {
             *mine = match (*mine, other) {
@@ -44,13 +118,9 @@ impl Column {
     }
 }
 
-/// Slices and refused units one after the other, whatever lies between them in the recording.
+/// Slices and refused units one after the other.
 pub struct Course {
-    columns: Vec<Column>,
-    /// how many of them a column holds, and the last one
-    step: u64,
-    in_last: u64,
-    count: u64,
+    columns: Columns<Units>,
     /// how many units each number refuses
     refused: [u64; 64],
 }
@@ -58,10 +128,7 @@ pub struct Course {
 impl Default for Course {
     fn default() -> Course {
         Course {
-            columns: Vec::new(),
-            step: 1,
-            in_last: 0,
-            count: 0,
+            columns: Columns::default(),
             refused: [0; 64],
         }
     }
@@ -70,9 +137,9 @@ impl Default for Course {
 impl Course {
     /// A slice by its type and QP, or a refused unit by its number.
     pub fn take(&mut self, place: u64, what: Result<(u32, i64), u32>) {
-        let mut column = Column {
+        let mut column = Units {
             place,
-            ..Column::default()
+            ..Units::default()
         };
         match what {
             Ok((family, qp)) => column.ends[family as usize % 5] = Some((qp, qp)),
@@ -81,31 +148,20 @@ impl Course {
                 self.refused[number.min(63) as usize] += 1;
             }
         }
-        self.count += 1;
-        match self.columns.last_mut() {
-            Some(last) if self.in_last < self.step => {
-                *last = last.join(column);
-                self.in_last += 1;
-                return;
-            }
-            _ => {}
-        }
-        if self.columns.len() == COLUMNS {
-            let pairs = self.columns.chunks(2);
-            self.columns = pairs.map(|p| p[0].join(p[1])).collect();
-            self.step *= 2;
-        }
-        self.columns.push(column);
-        self.in_last = 1;
+        self.columns.take(column);
     }
 
     /// The picture.
     pub fn svg(&self, name: &str) -> String {
-        let (low, high) = self.range();
-        let mut svg = Svg::new(low, high, self.count);
+        let ends = self.columns.iter().flat_map(|(_, c)| c.ends).flatten();
+        let mut svg = Svg::over(ends, self.columns.count);
         svg.begin("QP over", name);
         svg.qp_axis("slice QP");
-        self.place_axis(&mut svg);
+        self.columns.axis(
+            &mut svg,
+            "no slice and no refused unit",
+            "slices and refused units in their order, and the place of each in bytes",
+        );
         // those that are many lie below those that are few
         let mut order: Vec<usize> = (0..5).collect();
         order.sort_by_key(|k| std::cmp::Reverse(self.of_family(*k).count()));
@@ -118,17 +174,8 @@ impl Course {
     }
 
     fn of_family(&self, family: usize) -> impl Iterator<Item = (u64, (i64, i64))> + '_ {
-        let columns = self.columns.iter().zip(0..);
-        columns.filter_map(move |(c, i)| c.ends[family].map(|ends| (i * self.step, ends)))
-    }
-
-    /// The least and the greatest QP with some room; what 8 bits allow where no slice was read.
-    fn range(&self) -> (i64, i64) {
-        let ends = self.columns.iter().flat_map(|c| c.ends).flatten();
-        let ends = ends.reduce(|a, b| (a.0.min(b.0), a.1.max(b.1)));
-        let (least, greatest) = ends.unwrap_or((0, 51));
-        let room = (10 - (greatest - least)).max(2) / 2;
-        (least - room, greatest + room)
+        let columns = self.columns.iter();
+        columns.filter_map(move |(i, c)| c.ends[family].map(|ends| (i, ends)))
     }
 
     /// Each column from its least to its greatest QP: points where there are few, thin marks where there are many.
@@ -164,11 +211,11 @@ impl Course {
     /// Red lines over the slices, so that none is hidden, and numbers where there is room.
     fn torn(&self, svg: &mut Svg) {
         let (mut path, mut numbers, mut last) = (String::new(), String::new(), f64::MIN);
-        for (column, i) in self.columns.iter().zip(0..) {
+        for (i, column) in self.columns.iter() {
             if column.refused == 0 {
                 continue;
             }
-            let x = svg.x(i * self.step);
+            let x = svg.x(i);
             let _ = write!(path, "M{x:.1} {TOP}V{BOTTOM}");
             if x - last >= 20.0 {
                 last = x;
@@ -210,21 +257,6 @@ impl Course {
             .collect();
         entry(TORN, &format!("refused {all} ({}{more})", told.join(", ")));
     }
-
-    /// The order of the units, and where they stand in the recording.
-    fn place_axis(&self, svg: &mut Svg) {
-        let step = nice(svg.count as f64 / 8.0).max(1);
-        let ticks = (1..).map(|k| k * step - 1).take_while(|i| *i < self.count);
-        let first = (self.count > 0).then_some(0);
-        for i in first.into_iter().chain(ticks.filter(|i| *i > 0)) {
-            let column = &self.columns[(i / self.step) as usize];
-            svg.tick(i, &(i + 1).to_string(), &grouped(column.place));
-        }
-        svg.below(match self.count {
-            0 => "no slice and no refused unit",
-            _ => "slices and refused units in their order, and the place of each in bytes",
-        });
-    }
 }
 
 /// A picture that has begun, with its scales.
@@ -236,12 +268,15 @@ pub struct Svg {
 }
 
 impl Svg {
-    /// From one QP to another, with so many things side by side.
-    pub fn new(low: i64, high: i64, count: u64) -> Svg {
+    /// From the least to the greatest of these QPs with some room, or what 8 bits allow where there is none; with so many things side by side.
+    pub fn over(ends: impl Iterator<Item = (i64, i64)>, count: u64) -> Svg {
+        let ends = ends.reduce(|a, b| (a.0.min(b.0), a.1.max(b.1)));
+        let (least, greatest) = ends.unwrap_or((0, 51));
+        let room = (10 - (greatest - least)).max(2) / 2;
         Svg {
             text: String::new(),
-            low,
-            high,
+            low: least - room,
+            high: greatest + room,
             count: count.max(1),
         }
     }
@@ -276,7 +311,7 @@ impl Svg {
     }
 
     /// A line upwards, with two lines of words below it.
-    pub fn tick(&mut self, i: u64, number: &str, place: &str) {
+    fn tick(&mut self, i: u64, number: &str, place: &str) {
         let x = self.x(i);
         let _ = writeln!(
             self.text,
@@ -293,7 +328,7 @@ impl Svg {
     }
 
     /// What the things side by side are.
-    pub fn below(&mut self, words: &str) {
+    fn below(&mut self, words: &str) {
         let (x, y) = ((LEFT + RIGHT) / 2.0, BOTTOM + 58.0);
         let _ = writeln!(
             self.text,
@@ -337,7 +372,7 @@ impl Svg {
 }
 
 /// 1, 2 or 5 and zeros: not less than asked for.
-pub fn nice(least: f64) -> u64 {
+fn nice(least: f64) -> u64 {
     let mut ten = 1u64;
     loop {
         for k in [1, 2, 5] {
@@ -350,7 +385,7 @@ pub fn nice(least: f64) -> u64 {
 }
 
 /// 1234567 as 1,234,567.
-pub fn grouped(n: u64) -> String {
+fn grouped(n: u64) -> String {
     let digits = n.to_string();
     let mut told = String::new();
     for (i, digit) in digits.chars().enumerate() {

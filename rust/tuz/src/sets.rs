@@ -1,12 +1,12 @@
 //! The parameter sets that a recording brings: what is told of them on standard error, and `tuz table`.
 
-use crate::input::{Clip, Each, Recording};
+use crate::input::{Clip, Each};
 use crate::output::Stdout;
 use crate::Ending;
 use anyhow::Result;
 use std::fmt::Write;
 use tuzmarghil::raw::ReadOut;
-use tuzmarghil::{Stream, StreamReport, Table};
+use tuzmarghil::{StreamReport, Table};
 
 /// So many sets that are refused, or are put over different ones, are told; of the others the count is.
 const TOLD: u64 = 10;
@@ -122,7 +122,7 @@ pub fn run(clip: &Clip, ending: &Ending, out: &mut Stdout) -> Result<u8> {
         refused: 0,
         out,
     };
-    recording.units(Table::new(), ending.quiet, &mut met)?;
+    recording.units(Table::new(), ending.quiet, &mut met, Met::take)?;
     met.out.finish()?;
     met.sets.end();
     let Met {
@@ -152,19 +152,12 @@ struct Met<'a> {
 }
 
 impl Each for Met<'_> {
-    fn unit(&mut self, stream: &mut Stream<Recording>) -> Result<bool> {
-        match stream.next_unit_at_hand() {
-            None => Ok(false),
-            Some(report) => self.take(&report).map(|()| true),
-        }
+    fn out(&mut self) -> &mut Stdout {
+        self.out
     }
 
-    fn pause(&mut self) -> Result<()> {
-        self.out.flush_lines()
-    }
-
-    fn wanted(&self) -> bool {
-        !self.out.closed() || self.strict
+    fn strict(&self) -> bool {
+        self.strict
     }
 }
 

@@ -2,7 +2,7 @@
 
 use crate::answer::{self, number, Form, Slice, LIST, NAMES, QP};
 use crate::form::{self, Format, Text};
-use crate::input::{Clip, Each, Recording};
+use crate::input::{Clip, Each, Framing, Passed};
 use crate::output::{Output, Stdout};
 use crate::plot::Course;
 use crate::sets::Sets;
@@ -11,7 +11,7 @@ use crate::Ending;
 use anyhow::Result;
 use std::path::Path;
 use tuzmarghil::raw::{self, ReadOut};
-use tuzmarghil::{Stream, StreamReport};
+use tuzmarghil::{Refusal, StreamReport};
 
 /// Which command it is.
 #[derive(Clone, Copy, PartialEq, Eq)]
@@ -25,6 +25,7 @@ pub enum Kind {
 pub struct Asked<'a> {
     pub kind: Kind,
     pub clip: &'a Clip,
+    pub framing: Framing,
     pub format: Format,
     pub csv: Option<&'a Path>,
     pub plot: Option<&'a Path>,
@@ -35,7 +36,7 @@ pub struct Asked<'a> {
 pub fn run(asked: &Asked<'_>, out: &mut Stdout) -> Result<u8> {
     let (clip, ending) = (asked.clip, asked.ending);
     let table = clip.table()?;
-    let recording = clip.open()?;
+    let recording = clip.open_by(asked.framing)?;
     let mut outputs = Output::open(&clip.inputs(), &[asked.csv, asked.plot])?;
     let (plot, csv) = (outputs.pop().flatten(), outputs.pop().flatten());
     let to_stdout = |output: &Option<Output>| output.as_ref().map_or(false, Output::is_stdout);
@@ -54,11 +55,11 @@ pub fn run(asked: &Asked<'_>, out: &mut Stdout) -> Result<u8> {
         plot,
         out,
     };
-    let bytes = recording.units(table, ending.quiet, &mut units)?;
+    let passed = recording.units(table, ending.quiet, &mut units, Units::take)?;
     if !units.wanted() {
         return Ok(0);
     }
-    units.end(bytes)
+    units.end(&passed)
 }
 
 struct Units<'a> {
@@ -78,22 +79,17 @@ struct Units<'a> {
 }
 
 impl Each for Units<'_> {
-    fn unit(&mut self, stream: &mut Stream<Recording>) -> Result<bool> {
-        match stream.next_unit_at_hand() {
-            None => Ok(false),
-            Some(report) => self.take(&report).map(|()| true),
-        }
+    fn out(&mut self) -> &mut Stdout {
+        self.out
     }
 
-    fn pause(&mut self) -> Result<()> {
-        self.out.flush_lines()
+    fn strict(&self) -> bool {
+        self.asked.ending.strict
     }
 
-    /// A closed standard output ends the printing, not the work: files, and what the exit status tells.
-    fn wanted(&self) -> bool {
+    fn files(&self) -> bool {
         let files = [&self.csv, &self.plot];
-        let mut files = files.into_iter().flatten().filter(|to| !to.is_stdout());
-        !self.out.closed() || self.asked.ending.strict || files.next().is_some()
+        files.into_iter().flatten().any(|to| !to.is_stdout())
     }
 }
 
@@ -207,9 +203,27 @@ impl Units<'_> {
         Ok(())
     }
 
+    /// A length that is broken, and ends the recording: a line of its own in the listing, and no unit.
+    fn broken(&mut self, refusal: &Refusal) -> Result<()> {
+        self.totals.refused += 1;
+        if self.asked.kind == Kind::Qp {
+            self.quantisers.take(None);
+        }
+        if self.lines && self.asked.format == Format::Text {
+            let mut line = [0; 128];
+            let told = raw::broken_line(&mut line, refusal.value as usize);
+            return self.out.write(told);
+        }
+        eprintln!("tuz: {}: {refusal}", self.asked.clip.name());
+        Ok(())
+    }
+
     /// All units were told: the last lines, the files, the totals.
-    fn end(mut self, bytes: u64) -> Result<u8> {
+    fn end(mut self, passed: &Passed) -> Result<u8> {
         self.begin()?;
+        if let Some(refusal) = passed.broken {
+            self.broken(&refusal)?;
+        }
         let (kind, text) = (self.asked.kind, self.asked.format == Format::Text);
         let (clip, ending) = (self.asked.clip, self.asked.ending);
         let name = clip.name();
@@ -238,7 +252,7 @@ impl Units<'_> {
             if !(self.lines && text) {
                 eprint!("{sums}");
             }
-            eprintln!("{name}: {}", self.totals.told(bytes));
+            eprintln!("{name}: {}", self.totals.told(passed.bytes));
         }
         Ok(u8::from(ending.strict && self.totals.refused > 0))
     }

@@ -263,10 +263,11 @@ fn lengths_are_no_start_codes() {
             "lengths: has its units behind lengths of 4 bytes",
         );
         let told = err(&tuz(&["list", word(&path)], &[]));
-        let converter = told.split('`').nth(1).unwrap();
+        let converter = told.split('`').nth(3).unwrap();
         let converter = converter
             .replace("FILE", word(&path))
-            .replace("OUT.264", "/dev/stdout");
+            .replace("OUT.264", "-")
+            .replacen("tuz", env!("CARGO_BIN_EXE_tuz"), 1);
         let converted = Command::new("sh")
             .args(["-c", &converter])
             .output()
@@ -592,14 +593,16 @@ end units=4 refused=0
 #[test]
 fn a_unit_over_the_limit() {
     let most = 268_435_456;
-    for (length, told, refused) in [
-        (most, "slice type=7 frame=0 qp=26", 0),
-        (most + 1, "refused 27 value=0", 1),
+    for (length, told, refused, memory) in [
+        // a header is read where it stands: the unit is held once
+        (most - 4, "slice type=7 frame=0 qp=26", 0, 330),
+        (most, "slice type=7 frame=0 qp=26", 0, 600),
+        (most + 1, "refused 27 value=0", 1, 330),
     ] {
         let mut clip = vec![0xFF; 3 + length];
         clip[..7].copy_from_slice(&[0, 0, 1, 0x65, 0x88, 0x84, 0xA0]);
         clip.extend_from_slice(&CLIP[1..]);
-        let done = within_mib(600, &["list", "-", "--sample"], &clip);
+        let done = within_mib(memory, &["list", "-", "--sample"], &clip);
         let (first, second) = (3 + length + 3, 3 + length + 10);
         assert_eq!(
             out(&done),

@@ -109,11 +109,14 @@ fn a_refusal_is_explained() {
         let told = out(&tuz(&["explain", number], &[]));
         assert!(told.contains(&format!("\nbit: {place}\n")), "{told}");
     }
-    assert_eq!(out(&tuz(&["explain"], &[])).lines().count(), 29);
-    let done = tuz(&["explain", "29"], &[]);
+    assert_eq!(out(&tuz(&["explain"], &[])).lines().count(), 31);
+    let done = tuz(&["explain", "30"], &[]);
     assert_eq!(
         (err(&done).as_str(), done.status.code()),
-        ("tuz: 29 is no refusal: they are 1 to 28 and 34\n", Some(2))
+        (
+            "tuz: 30 is no refusal: they are 1 to 29, 34 and 35\n",
+            Some(2)
+        )
     );
 }
 

@@ -7,7 +7,8 @@ use crate::LIMIT;
 pub const CONTAINER_LOOK: usize = 4096;
 
 const FFMPEG: &str = "ffmpeg -i FILE -map 0:v:0 -c:v copy -bsf:v h264_mp4toannexb -f h264 OUT.264";
-const PYTHON: &str = r#"python3 -c 'import sys; i, o = sys.stdin.buffer, sys.stdout.buffer; [o.write(b"\0\0\0\1" + i.read(int.from_bytes(n, "big"))) for n in iter(lambda: i.read(4), b"")]' < FILE > OUT.264"#;
+const CONVERT: &str = "tuz convert FILE -o OUT.264 --to start-codes";
+const FRAMING: &str = "--framing length";
 
 /// Names and the bytes that they have at a place.
 const MAGIC: [(&str, usize, &[u8]); 16] = [
@@ -53,6 +54,15 @@ pub fn container_needs(front: &[u8]) -> usize {
 /// assert_eq!(container(&[0, 0, 0, 1, 0x67, 0x42, 0, 0x1E], false), None);
 /// ```
 pub fn container(front: &[u8], whole: bool) -> Option<String> {
+    in_container(front).or_else(|| {
+        let told = || format!("has its units behind lengths of 4 bytes, not behind start codes: `{FRAMING}` reads it, and `{CONVERT}` puts start codes in their place");
+        is_framed(front, whole).then(told)
+    })
+}
+
+/// The same for a container alone.
+#[doc(hidden)]
+pub fn in_container(front: &[u8]) -> Option<String> {
     let magic = |(_, at, bytes): &&(&str, usize, &[u8])| {
         // before the name of an MP4's first box stands its length, which is large for `mdat` alone
         let length = *at == 0 || front.first() == Some(&0) || *bytes == b"mdat";
@@ -62,13 +72,8 @@ pub fn container(front: &[u8], whole: bool) -> Option<String> {
     let found = MAGIC.iter().find(magic).map(|(name, ..)| *name);
     let name =
         found.or_else(|| is_transport_stream(front).then_some("an MPEG transport stream (TS)"));
-    if let Some(name) = name {
-        return Some(format!(
-            "is {name}, no H.264 byte stream; `{FFMPEG}` takes the stream out of it"
-        ));
-    }
-    is_framed(front, whole).then(|| {
-        format!("has its units behind lengths of 4 bytes, not behind start codes, which are not read yet; `{PYTHON}` puts start codes in their place")
+    name.map(|name| {
+        format!("is {name}, no H.264 byte stream; `{FFMPEG}` takes the stream out of it")
     })
 }
 
@@ -83,26 +88,46 @@ fn is_transport_stream(front: &[u8]) -> bool {
     })
 }
 
-/// Whether lengths of 4 bytes lead from unit to unit. A length-framed file begins with no start code but by chance: then more units are asked for.
+/// Whether lengths of 4 bytes lead from unit to unit, so that this is told without being asked for.
 fn is_framed(front: &[u8], whole: bool) -> bool {
+    let (units, end) = match lengths(front) {
+        Some(led) => led,
+        None => return false,
+    };
+    let ends = whole && end == front.len() && units > 0;
+    if starts_with_code(front) {
+        units >= 4
+    } else {
+        ends || units >= 2
+    }
+}
+
+/// The same for who asks which of the two it is: a first unit that is longer than these bytes is enough, where they do not begin with a start code.
+#[doc(hidden)]
+pub fn looks_framed(front: &[u8], whole: bool) -> bool {
+    let long = lengths(front).map_or(false, |(_, end)| end > front.len());
+    is_framed(front, whole) || long && !whole && !starts_with_code(front)
+}
+
+/// A length-framed file begins so but by chance: then more units are asked for.
+fn starts_with_code(front: &[u8]) -> bool {
+    front.starts_with(&[0, 0, 1]) || front.starts_with(&[0, 0, 0, 1])
+}
+
+/// How many whole units lengths of 4 bytes lead to, and the place that they lead to at last; nothing where one is no unit's.
+fn lengths(front: &[u8]) -> Option<(usize, usize)> {
     let (mut at, mut units) = (0, 0);
     while let Some(length) = front.get(at..at + 4) {
         let length = u32::from_be_bytes([length[0], length[1], length[2], length[3]]) as usize;
         let first = front.get(at + 4).copied();
         let good = first.map_or(true, |b| b < 128 && (1..24).contains(&(b % 32)));
         if !good || !(2..=LIMIT).contains(&length) {
-            return false;
+            return None;
         }
         at += 4 + length;
         units += usize::from(at <= front.len());
     }
-    let ends = whole && at == front.len() && units > 0;
-    let starts = front.starts_with(&[0, 0, 1]) || front.starts_with(&[0, 0, 0, 1]);
-    if starts {
-        units >= 4
-    } else {
-        ends || units >= 2
-    }
+    Some((units, at))
 }
 
 #[cfg(test)]
@@ -142,6 +167,11 @@ mod tests {
         ] {
             assert_eq!(is_framed(&front, whole), framed, "{front:?}");
         }
+        // who asks is told of one long unit too
+        let front = [&[0, 0, 9, 0, 0x65][..], &[7; 255]].concat();
+        assert!(looks_framed(&front, false) && !is_framed(&front, false));
+        assert!(!looks_framed(&front, true));
+        assert!(!looks_framed(&long, false));
     }
 
     /// Byte streams, with start codes of three and four bytes, are none of them.

@@ -1,6 +1,6 @@
 //! Exposures: the slices of a recording grouped into pictures.
 
-use crate::raw::{self, ReadOut, State, Words};
+use crate::raw::{self, ReadOut, TakenOut, Words};
 use crate::{Reports, Stream, StreamReport, Table};
 use std::io::{self, Read};
 
@@ -68,7 +68,8 @@ pub struct ExposureTotals {
 /// # Ok::<(), std::io::Error>(())
 /// ```
 pub struct Stacker {
-    state: State,
+    /// The state after the units that were taken, and what the last one closed.
+    taken: TakenOut,
     exposures: u64,
     gaps: u64,
 }
@@ -77,7 +78,7 @@ impl Default for Stacker {
     /// No unit was taken.
     fn default() -> Stacker {
         Stacker {
-            state: raw::exposures_start(),
+            taken: raw::exposures_start(),
             exposures: 0,
             gaps: 0,
         }
@@ -101,15 +102,14 @@ impl Stacker {
         words: &Words,
     ) -> Option<Exposure> {
         let first = unit.first().copied().unwrap_or(0);
-        let out = raw::take(self.state, table.as_raw(), place, first, read, words);
-        self.state = out.state;
-        self.told(out.closed)
+        raw::take(&mut self.taken, table.as_raw(), place, first, read, words);
+        self.told(self.taken.closed)
     }
 
     /// The last exposure: the recording has ended. What is taken from here on begins anew, and counts go on.
     pub fn finish(&mut self) -> Option<Exposure> {
-        let closed = raw::finish(self.state);
-        self.state.begun = false;
+        let closed = raw::finish(self.taken.state);
+        self.taken.state.begun = false;
         self.told(closed)
     }
 
@@ -135,7 +135,7 @@ impl Stacker {
 
     /// What was taken so far.
     pub fn totals(&self) -> ExposureTotals {
-        let c = self.state.counts;
+        let c = self.taken.state.counts;
         ExposureTotals {
             exposures: self.exposures,
             gaps: self.gaps,

@@ -37,7 +37,10 @@
 #![warn(missing_docs)]
 
 mod container;
+mod convert;
 mod exposures;
+mod headers;
+mod length;
 mod nal;
 mod prefix;
 #[doc(hidden)]
@@ -56,8 +59,10 @@ mod walk;
 mod words;
 mod write;
 
-pub use container::{container, container_needs, CONTAINER_LOOK};
+pub use container::{container, container_needs, in_container, looks_framed, CONTAINER_LOOK};
+pub use convert::{to_lengths, to_lengths_into, to_start_codes, to_start_codes_into};
 pub use exposures::{exposures, Exposure, ExposureTotals, Exposures, Stacker, StreamExposures};
+pub use length::LengthFramed;
 pub use nal::{
     NalHeader, NalHeaderExtension, NalHeaderMvcExtension, NalHeaderSvcExtension, UnitType,
     UnitTypeError,

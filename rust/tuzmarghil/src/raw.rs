@@ -36,6 +36,7 @@ extern "C" {
     ) -> usize;
     fn tuz_head_line(line: *mut Line, place: usize, length: usize, out: HeadOut) -> usize;
     fn tuz_end_line(line: *mut Line, units: usize, refused: usize) -> usize;
+    fn tuz_broken_line(line: *mut Line, place: usize) -> usize;
     fn tuz_sequence_at(out: *mut SequenceOut, table: *const Table, id: u32);
     fn tuz_picture_at(out: *mut PictureOut, table: *const Table, id: u32);
     fn tuz_put_sequence(table: *mut Table, id: u32, set: Sequence) -> ChangedOut;
@@ -77,6 +78,57 @@ extern "C" {
         w0: *mut WeightWords,
         w1: *mut WeightWords,
         base: *mut ListWords,
+    );
+    fn tuz_walk_headers(
+        out: *mut WalkOut,
+        sequences: *mut [u32; 224],
+        pictures: *mut [u32; 2304],
+        recording: *const u8,
+        recording_len: usize,
+        from: usize,
+        scratch: *mut u8,
+        scratch_len: usize,
+        numbers: *mut NumberWords,
+        signed: *mut SignedWords,
+        l0: *mut ListWords,
+        l1: *mut ListWords,
+        marking: *mut ListWords,
+        w0: *mut WeightWords,
+        w1: *mut WeightWords,
+        base: *mut ListWords,
+    );
+    fn tuz_next_framed(out: *mut StepOut, recording: *const u8, recording_len: usize, from: usize);
+    fn tuz_walk_framed_headers(
+        out: *mut WalkOut,
+        sequences: *mut [u32; 224],
+        pictures: *mut [u32; 2304],
+        recording: *const u8,
+        recording_len: usize,
+        from: usize,
+        scratch: *mut u8,
+        scratch_len: usize,
+        numbers: *mut NumberWords,
+        signed: *mut SignedWords,
+        l0: *mut ListWords,
+        l1: *mut ListWords,
+        marking: *mut ListWords,
+        w0: *mut WeightWords,
+        w1: *mut WeightWords,
+        base: *mut ListWords,
+    );
+    fn tuz_to_start_codes(
+        result: *mut ConvertedOut,
+        recording: *const u8,
+        recording_len: usize,
+        out: *mut u8,
+        out_len: usize,
+    );
+    fn tuz_to_lengths(
+        result: *mut ConvertedOut,
+        recording: *const u8,
+        recording_len: usize,
+        out: *mut u8,
+        out_len: usize,
     );
     fn tuz_exposures_start(out: *mut State);
     fn tuz_take(
@@ -136,7 +188,7 @@ macro_rules! plain {
     )* };
 }
 
-plain!(Table Sequence Picture SequenceOut PictureOut HeaderShort HeadOut UnitHead ReadOut StepOut WalkOut WroteOut ExtensionOut State TakenOut ClosedOut);
+plain!(Table Sequence Picture SequenceOut PictureOut HeaderShort HeadOut UnitHead ReadOut StepOut WalkOut ConvertedOut WroteOut ExtensionOut State TakenOut ClosedOut);
 
 impl ReadOut {
     /// What tells of a refusal.
@@ -176,26 +228,27 @@ impl ReadOut {
     }
 }
 
-/// The state before the first unit, for [`take`].
-pub fn exposures_start() -> State {
+/// The state before the first unit, for [`take`]; nothing is closed.
+pub fn exposures_start() -> TakenOut {
     asked();
-    let mut out = State::default();
+    let mut out = TakenOut::default();
     // SAFETY: the result lives through the call, which requires nothing.
-    unsafe { tuz_exposures_start(&mut out) };
+    unsafe { tuz_exposures_start(&mut out.state) };
     out
 }
 
-/// Takes a unit, by the table in force, its place, its first byte and what reading it gave: the state after it, and the exposure that it closes.
+/// Takes a unit, by the table in force, its place, its first byte and what reading it gave: the state after it stands in `taken`, with the exposure that it closes.
+#[inline]
 pub fn take(
-    state: State,
+    taken: &mut TakenOut,
     table: &Table,
     place: usize,
     first: u8,
     out: &ReadOut,
     words: &Words,
-) -> TakenOut {
+) {
     asked();
-    let mut taken = TakenOut::default();
+    let state = taken.state;
     let (q, p, n, s) = (
         &table.sequences,
         &table.pictures,
@@ -204,12 +257,7 @@ pub fn take(
     );
     let (kind, reference, answer) = (first & 31, first >> 5 & 3, out.answer);
     // SAFETY: the result and the arrays live through the call, which requires nothing.
-    unsafe {
-        tuz_take(
-            &mut taken, state, q, p, place, kind, reference, answer, n, s,
-        )
-    };
-    taken
+    unsafe { tuz_take(taken, state, q, p, place, kind, reference, answer, n, s) };
 }
 
 /// The last exposure.
@@ -318,6 +366,14 @@ pub fn end_line(line: &mut Line, units: usize, refused: usize) -> &[u8] {
     &line[..end]
 }
 
+/// The line of a broken length, before the last one.
+pub fn broken_line(line: &mut Line, place: usize) -> &[u8] {
+    asked();
+    // SAFETY: the line lives through the call, which requires nothing.
+    let end = unsafe { tuz_broken_line(line, place) };
+    &line[..end]
+}
+
 pub fn sequence_at(table: &Table, id: u32) -> SequenceOut {
     asked();
     let mut out = SequenceOut::default();
@@ -423,21 +479,77 @@ pub fn next_unit(recording: &[u8], from: usize) -> StepOut {
     out
 }
 
-/// One step of the walk: a set that is read is put into the table.
-pub fn walk(
-    table: &mut Table,
-    recording: &[u8],
-    from: usize,
-    scratch: &mut [u8],
-    words: &mut Words,
-    out: &mut WalkOut,
-) {
+/// The same in a recording framed by length.
+pub fn next_framed(recording: &[u8], from: usize) -> StepOut {
     asked();
-    let (q, p) = (&mut table.sequences, &mut table.pictures);
+    let mut out = StepOut::default();
     let (r, rn) = (recording.as_ptr(), recording.len());
-    let (s, sn) = (scratch.as_mut_ptr(), scratch.len());
-    // SAFETY: each pointer and length is that of a live slice, the arrays live through the call and lie apart, and it requires nothing.
-    unsafe { lending!(words, tuz_walk(out, q, p, r, rn, from, s, sn)) }
+    // SAFETY: the pointer and the length are those of a live slice, which the call only reads, and it requires nothing.
+    unsafe { tuz_next_framed(&mut out, r, rn, from) };
+    out
+}
+
+/// A walk's step of the proved library, under its name.
+macro_rules! walks {
+    ($($(#[$told:meta])* $name:ident: $call:ident;)*) => { $(
+        $(#[$told])*
+        pub fn $name(
+            table: &mut Table,
+            recording: &[u8],
+            from: usize,
+            scratch: &mut [u8],
+            words: &mut Words,
+            out: &mut WalkOut,
+        ) {
+            asked();
+            let (q, p) = (&mut table.sequences, &mut table.pictures);
+            let (r, rn) = (recording.as_ptr(), recording.len());
+            let (s, sn) = (scratch.as_mut_ptr(), scratch.len());
+            // SAFETY: each pointer and length is that of a live slice, the arrays live through the call and lie apart, and it requires nothing.
+            unsafe { lending!(words, $call(out, q, p, r, rn, from, s, sn)) }
+        }
+    )* };
+}
+
+walks! {
+    /// One step of the walk: a set that is read is put into the table.
+    walk: tuz_walk;
+    /// The same, with headers alone: scratch is for parameter sets.
+    walk_headers: tuz_walk_headers;
+    /// The same in a recording framed by length.
+    walk_framed_headers: tuz_walk_framed_headers;
+}
+
+impl ConvertedOut {
+    /// How many bytes the result has, or the refusal.
+    pub fn told(&self) -> Result<usize, Refusal> {
+        match self.number {
+            0 => Ok(self.bytes),
+            number => Err(Refusal::new(number, self.value)),
+        }
+    }
+}
+
+/// From lengths to start codes.
+pub fn to_start_codes(recording: &[u8], out: &mut [u8]) -> ConvertedOut {
+    asked();
+    let mut result = ConvertedOut::default();
+    let (r, rn) = (recording.as_ptr(), recording.len());
+    let (o, on) = (out.as_mut_ptr(), out.len());
+    // SAFETY: each pointer and length is that of a live slice, the two lie apart, and the call requires nothing.
+    unsafe { tuz_to_start_codes(&mut result, r, rn, o, on) };
+    result
+}
+
+/// From start codes to lengths.
+pub fn to_lengths(recording: &[u8], out: &mut [u8]) -> ConvertedOut {
+    asked();
+    let mut result = ConvertedOut::default();
+    let (r, rn) = (recording.as_ptr(), recording.len());
+    let (o, on) = (out.as_mut_ptr(), out.len());
+    // SAFETY: each pointer and length is that of a live slice, the two lie apart, and the call requires nothing.
+    unsafe { tuz_to_lengths(&mut result, r, rn, o, on) };
+    result
 }
 
 /// How many bits the header in words has at most, by the lengths of its lists and its active counts.

@@ -7,9 +7,9 @@ use std::fmt;
 #[cfg_attr(feature = "serde", derive(serde::Serialize))]
 #[non_exhaustive]
 pub struct Refusal {
-    /// The rules' number, 1 to 28 or 34.
+    /// The rules' number, 1 to 29, 34 or 35.
     pub number: u32,
-    /// The value that goes with the number: the field's content, a set's id, the bytes needed, or 0.
+    /// The value that goes with the number: the field's content, a set's id, a place, the bytes needed, or 0.
     pub value: i64,
     /// Where the refused field begins: its first bit in the unescaped body, counted from 0. A refusal that does not arise while a body is read has none.
     pub bit: Option<usize>,
@@ -101,7 +101,15 @@ impl fmt::Display for Reason<'_> {
             26 => write!(f, "the buffer is too short: {value} bytes are needed"),
             27 => write!(f, "over 268435456 bytes"),
             28 => write!(f, "a parameter set's field is out of its range"),
+            29 => write!(
+                f,
+                "the length at place {value} is broken: fewer bytes are left than it says, or than it has"
+            ),
             34 => write!(f, "the head is not the unit's own"),
+            35 => write!(
+                f,
+                "the unit at place {value} holds 00 00 00 or 00 00 01, or ends with a zero byte, so start codes cannot carry it"
+            ),
             _ => write!(f, "value {value}"),
         }
     }

@@ -4,7 +4,8 @@
 //! last mark (`00 00 00` or `00 00 01`) that has come. Nothing is lost by that. A start code never begins before a mark and reaches into it; and where the cut takes
 //! away a unit's end mark, what is left of it are zero bytes, which the walk drops at a recording's end.
 
-use crate::raw::{self, HeadOut, ReadOut, WalkOut, Words};
+use crate::headers::{Framing, Lent};
+use crate::raw::{self, HeadOut, ReadOut, Words};
 use crate::{Reading, Refusal, Table, Unit, UnitHead, LIMIT};
 use std::io::{self, Read};
 
@@ -18,6 +19,14 @@ pub struct StreamReport<'a> {
 }
 
 impl<'a> StreamReport<'a> {
+    pub(crate) fn new(place: u64, length: u64, reading: Reading<'a>) -> StreamReport<'a> {
+        StreamReport {
+            place,
+            length,
+            reading,
+        }
+    }
+
     /// The unit's bytes; none where it is over [`LIMIT`].
     pub fn bytes(&self) -> &'a [u8] {
         self.reading.bytes()
@@ -50,6 +59,20 @@ pub struct StreamHead<'a> {
 }
 
 impl<'a> StreamHead<'a> {
+    /// Of a unit that lies at hand, or, without bytes, of one over the limit.
+    pub(crate) fn new(place: u64, length: u64, bytes: Option<&'a [u8]>) -> StreamHead<'a> {
+        let too_long = HeadOut {
+            number: 27,
+            ..HeadOut::default()
+        };
+        StreamHead {
+            place,
+            length,
+            bytes: bytes.unwrap_or(&[]),
+            head: bytes.map_or(too_long, raw::head),
+        }
+    }
+
     /// The unit's bytes; none where it is over [`LIMIT`].
     pub fn bytes(&self) -> &'a [u8] {
         self.bytes
@@ -84,6 +107,9 @@ impl<'a> StreamHead<'a> {
 /// # Ok::<(), std::io::Error>(())
 /// ```
 ///
+/// What is held is a piece of the recording: 8 MiB, or, where a unit is longer, as much as it has, since [`StreamReport::bytes`] gives all of it. Headers are read where they
+/// stand, so nothing is held twice but for a parameter set, and a unit that has all of [`LIMIT`] bytes but three or fewer.
+///
 /// An error of the source loses nothing: where it may be tried again, the next call goes on where this one stood.
 pub struct Stream<R> {
     source: R,
@@ -102,9 +128,7 @@ pub struct Stream<R> {
     searched: usize,
     /// A unit over the limit whose end has not come.
     long: Option<Long>,
-    scratch: Vec<u8>,
-    words: Box<Words>,
-    out: WalkOut,
+    lent: Lent,
 }
 
 /// A unit over the limit: its place, and its end as far as it is seen, past its last byte that is not zero.
@@ -123,7 +147,7 @@ enum Found {
 }
 
 /// How much is read at a time; the buffer grows where a unit is longer.
-const PIECE: usize = 8 << 20;
+pub(crate) const PIECE: usize = 8 << 20;
 
 impl<R: Read> Stream<R> {
     /// The recording that `source` gives, with an empty table.
@@ -159,9 +183,7 @@ impl<R: Read> Stream<R> {
             at: 0,
             searched: 1,
             long: None,
-            scratch: Vec::new(),
-            words: Box::default(),
-            out: WalkOut::default(),
+            lent: Lent::new(),
         }
     }
 
@@ -274,33 +296,19 @@ impl<R: Read> Stream<R> {
             let out = raw::next_unit(window, self.at);
             return (out.step == 1).then_some((out.place, out.length, out.next));
         }
-        lengthen(&mut self.scratch, self.window);
-        let (table, scratch) = (self.table.as_raw_mut(), &mut self.scratch);
-        let (words, out) = (&mut self.words, &mut self.out);
-        raw::walk(table, window, self.at, scratch, words, out);
+        let (codes, table) = (Framing::StartCodes, &mut self.table);
+        self.lent.step(codes, table, window, self.at);
+        let out = &self.lent.out;
         (out.step == 1).then_some((out.place, out.length, out.next))
     }
 
     fn head(&self, found: Found) -> StreamHead<'_> {
         match found {
             Found::Unit { from, to } => {
-                let bytes = &self.buffer[from..to];
-                StreamHead {
-                    place: self.base + from as u64,
-                    length: bytes.len() as u64,
-                    bytes,
-                    head: raw::head(bytes),
-                }
+                let (place, bytes) = (self.base + from as u64, &self.buffer[from..to]);
+                StreamHead::new(place, bytes.len() as u64, Some(bytes))
             }
-            Found::TooLong { place, length } => StreamHead {
-                place,
-                length,
-                bytes: &[],
-                head: HeadOut {
-                    number: 27,
-                    ..HeadOut::default()
-                },
-            },
+            Found::TooLong { place, length } => StreamHead::new(place, length, None),
         }
     }
 
@@ -311,22 +319,11 @@ impl<R: Read> Stream<R> {
                 (place, (to - from) as u64, &self.buffer[from..to])
             }
             Found::TooLong { place, length } => {
-                self.out.read = ReadOut::refused(Refusal::new(27, 0));
-                *self.words = Words::default();
+                self.lent.too_long();
                 (place, length, &[][..])
             }
         };
-        StreamReport {
-            place,
-            length,
-            reading: Reading::new(
-                &self.table,
-                bytes,
-                &self.out.read,
-                &self.words,
-                &self.scratch,
-            ),
-        }
+        StreamReport::new(place, length, self.lent.reading(&self.table, bytes))
     }
 
     /// Drops the buffer's first bytes; the window is then empty.
@@ -380,11 +377,7 @@ impl<R: Read> Stream<R> {
             return Some(Found::TooLong { place, length });
         }
         if read {
-            lengthen(&mut self.scratch, to);
-            let (table, bytes) = (self.table.as_raw_mut(), &self.buffer[3..to]);
-            let (words, out) = (&mut self.words, &mut self.out.read);
-            raw::read_unit(table, bytes, &mut self.scratch, words, out);
-            raw::put_read(table, out);
+            self.lent.unit(&mut self.table, &self.buffer[3..to]);
         }
         Some(Found::Unit { from: 3, to })
     }
@@ -415,8 +408,8 @@ impl<R: Read> Stream<R> {
     }
 }
 
-/// Makes it so long at least, and no longer: a unit can have as many bytes as half of what we promise to need.
-fn lengthen(bytes: &mut Vec<u8>, length: usize) {
+/// Makes it so long at least, and no longer: a unit can have as many bytes as nearly all of what we promise to need.
+pub(crate) fn lengthen(bytes: &mut Vec<u8>, length: usize) {
     if bytes.len() < length {
         bytes.reserve_exact(length - bytes.len());
         bytes.resize(length, 0);
@@ -451,7 +444,7 @@ fn last_mark(s: &[u8], from: usize) -> Option<usize> {
 }
 
 #[cfg(test)]
-mod tests {
+pub(crate) mod tests {
     use super::*;
 
     /// Units by definition, over the whole recording: place, length.
@@ -470,7 +463,7 @@ mod tests {
         found
     }
 
-    fn random(seed: u64) -> impl FnMut(usize) -> usize {
+    pub(crate) fn random(seed: u64) -> impl FnMut(usize) -> usize {
         let mut x = seed;
         move |n: usize| {
             x ^= x << 13;
@@ -481,7 +474,7 @@ mod tests {
     }
 
     /// A source that gives few bytes at a time, and fails before every so many reads.
-    struct Drops<'a> {
+    pub(crate) struct Drops<'a> {
         bytes: &'a [u8],
         most: usize,
         fails: usize,
@@ -501,7 +494,7 @@ mod tests {
         }
     }
 
-    fn drops(bytes: &[u8], most: usize, fails: usize) -> Drops<'_> {
+    pub(crate) fn drops(bytes: &[u8], most: usize, fails: usize) -> Drops<'_> {
         Drops {
             bytes,
             most,

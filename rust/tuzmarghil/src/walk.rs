@@ -1,7 +1,8 @@
 //! The units of a recording.
 
-use crate::raw::{self, ReadOut, WalkOut, Words};
-use crate::{Reading, Refusal, Table, Unit, LIMIT};
+use crate::headers::{Framing, Lent};
+use crate::raw::{ReadOut, Words};
+use crate::{Refusal, Table, Unit, LIMIT};
 
 /// A unit of a recording.
 #[derive(Clone, Debug, PartialEq, Eq)]
@@ -17,7 +18,8 @@ pub struct Report {
 }
 
 /// The units of a recording that lies in memory, in order: one for each start code. A parameter set that is read goes into the table, which the slices behind it are
-/// read by; one that is refused leaves it as it was. A recording of over [`LIMIT`] bytes is refusal 27; [`crate::Stream`] takes any.
+/// read by; one that is refused leaves it as it was. Headers are read where they stand: beside the recording nothing is held that grows, but room for the longest
+/// parameter set. A recording of over [`LIMIT`] bytes is refusal 27; [`crate::Stream`] takes any.
 ///
 /// ```
 /// use tuzmarghil::{reports, Table, Unit, UnitType};
@@ -39,9 +41,7 @@ pub fn reports<'a>(table: &'a mut Table, recording: &'a [u8]) -> Result<Reports<
         table,
         recording,
         from: 0,
-        scratch: vec![0; recording.len()],
-        words: Box::default(),
-        out: WalkOut::default(),
+        lent: Lent::new(),
     })
 }
 
@@ -50,9 +50,7 @@ pub struct Reports<'a> {
     table: &'a mut Table,
     recording: &'a [u8],
     from: usize,
-    scratch: Vec<u8>,
-    words: Box<Words>,
-    out: WalkOut,
+    lent: Lent,
 }
 
 impl Reports<'_> {
@@ -63,21 +61,16 @@ impl Reports<'_> {
 
     /// The next unit as the proved library tells it: the table in force, its place, its bytes, the answer and the words.
     pub(crate) fn step(&mut self) -> Option<(&Table, usize, &[u8], &ReadOut, &Words)> {
-        let out = &mut self.out;
-        raw::walk(
-            self.table.as_raw_mut(),
-            self.recording,
-            self.from,
-            &mut self.scratch,
-            &mut self.words,
-            out,
-        );
+        let (codes, recording) = (Framing::StartCodes, self.recording);
+        self.lent.step(codes, self.table, recording, self.from);
+        let out = &self.lent.out;
         if out.step != 1 {
             return None;
         }
         self.from = out.next;
-        let bytes = &self.recording[out.place..][..out.length];
-        Some((self.table, out.place, bytes, &out.read, &self.words))
+        let bytes = &recording[out.place..][..out.length];
+        let (read, words) = self.lent.read();
+        Some((self.table, out.place, bytes, read, words))
     }
 }
 
@@ -86,12 +79,12 @@ impl Iterator for Reports<'_> {
 
     fn next(&mut self) -> Option<Report> {
         self.step()?;
-        let (table, out) = (&*self.table, &self.out);
-        let bytes = &self.recording[out.place..][..out.length];
+        let (place, length) = (self.lent.out.place, self.lent.out.length);
+        let bytes = &self.recording[place..][..length];
         Some(Report {
-            place: out.place,
-            length: out.length,
-            unit: Reading::new(table, bytes, &out.read, &self.words, &self.scratch).unit(),
+            place,
+            length,
+            unit: self.lent.reading(self.table, bytes).unit(),
         })
     }
 }

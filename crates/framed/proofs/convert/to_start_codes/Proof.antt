@@ -30,19 +30,19 @@ returns c =
 returns-2 : tie.Need-returns-2
 returns-2 c =
     let a = c .before .before .before .before .before .before .args in
-    let q = c .before .before .units-end .ensures in
+    let q = c .before .before .survey .ensures .0 in
     let e = codes-broken (a .recording .now) (a .out .now) (omega arith) (omega arith) in
-    let small : c .before .before .units-end .result < 9223372036854775808 = omega arith in
+    let small : c .before .before .survey .result .end < 9223372036854775808 = omega arith in
     (rw (c .refuse2 .ensures, toZ-pos w64 small, q) (sym (ap answered e)), sym (ap leaves e))
 
 cast-refuse-2 : tie.Need-cast-refuse-2
-cast-refuse-2 c = omega (arith, uncarried-within 0 0 (c .before .before .before .before .before .before .before .before .before .args .recording .now) (omega arith) (sym (c .before .before .before .first-uncarried .ensures) ∙ c .before .first .given .1))
+cast-refuse-2 c = omega (arith, uncarried-within 0 0 (c .before .before .before .before .before .before .before .before .args .recording .now) (omega arith) (sym (c .before .before .before .before .survey .ensures .1) ∙ c .before .first .given .1))
 
 returns-3 : tie.Need-returns-3
 returns-3 c =
-    let a = c .before .before .before .before .before .before .before .before .before .before .args in
-    let q = c .before .before .before .before .before .before .units-end .ensures in
-    let f = sym (c .before .before .before .before .first-uncarried .ensures) ∙ c .before .before .first .given .1 in
+    let a = c .before .before .before .before .before .before .before .before .before .args in
+    let q = c .before .before .before .before .before .survey .ensures .0 in
+    let f = sym (c .before .before .before .before .before .survey .ensures .1) ∙ c .before .before .first .given .1 in
     let w = uncarried-within 0 0 (a .recording .now) (omega arith) f in
     let e = codes-uncarried (a .recording .now) (a .out .now) (omega arith) (omega arith) f in
     let small : c .before .before .first .given .0 .0 < 9223372036854775808 = omega arith in
@@ -50,25 +50,25 @@ returns-3 c =
 
 returns-4 : tie.Need-returns-4
 returns-4 c =
-    let a = c .before .before .before .before .before .before .before .before .before .before .args in
-    let q = c .before .before .before .before .before .before .units-end .ensures in
-    let e = codes-short (a .recording .now) (a .out .now) (omega arith) (omega arith) (sym (c .before .before .before .before .first-uncarried .ensures) ∙ c .before .before .enum-told .given .1) (omega arith) in
+    let a = c .before .before .before .before .before .before .before .before .before .args in
+    let q = c .before .before .before .before .before .survey .ensures .0 in
+    let e = codes-short (a .recording .now) (a .out .now) (omega arith) (omega arith) (sym (c .before .before .before .before .before .survey .ensures .1) ∙ c .before .before .enum-told .given .1) (omega arith) in
     let small : length (a .recording .now) < 9223372036854775808 = omega arith in
     (rw (c .refuse4 .ensures, toZ-pos w64 small) (sym (ap answered e)), sym (ap leaves e))
 
 put-codes-requires : tie.Need-put-codes-requires
 put-codes-requires c κs =
-    let s = c .before .before .before .before .before .before .before .before .before .before .args .recording .now in
-    let q = c .before .before .before .before .before .before .units-end .ensures in
+    let s = c .before .before .before .before .before .before .before .before .before .args .recording .now in
+    let q = c .before .before .before .before .before .survey .ensures .0 in
     let e : length (joined startCode (bytesOf (framedUnits s))) ≡ length s = codes-length s (omega arith) in
     (omega arith, omega arith)
 
 returns-5 : tie.Need-returns-5
 returns-5 c =
-    let a = c .before .before .before .before .before .before .before .before .before .before .before .before .before .args in
-    let q = c .before .before .before .before .before .before .before .before .before .units-end .ensures in
+    let a = c .before .before .before .before .before .before .before .before .before .before .before .before .args in
+    let q = c .before .before .before .before .before .before .before .before .survey .ensures .0 in
     let k = c .before .before .put-codes in
-    let e = codes-done (a .recording .now) (a .out .now) (omega arith) (omega arith) (sym (c .before .before .before .before .before .before .before .first-uncarried .ensures) ∙ c .before .before .before .before .before .enum-told .given .1) (omega arith) in
+    let e = codes-done (a .recording .now) (a .out .now) (omega arith) (omega arith) (sym (c .before .before .before .before .before .before .before .before .survey .ensures .1) ∙ c .before .before .before .before .before .enum-told .given .1) (omega arith) in
     (rw (k .ensures .0) (sym (ap answered e)), k .ensures .1 ∙ sym (ap leaves e))
 
 pub to-start-codes-spec : {M : Type 1} → statement M
@@ -81,7 +81,6 @@ to-start-codes-spec =
     (λ c. search needs)
     (λ c κs. search needs)
     returns-2
-    (λ c κs. search needs)
     (λ c. search needs)
     cast-refuse-2
     (λ c κs. search needs)

@@ -6,7 +6,7 @@ use Rattle.list_steps.proofs.step.walk_on.Tie as tie
 
 returns : tie.Need-returns
 returns c =
-    let g = c .before .before .walk-into .ensures in
+    let g = c .before .before .walk-by .ensures in
     record {
       step = g .step;
       answered = g .answered;

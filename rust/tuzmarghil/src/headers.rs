@@ -1,0 +1,88 @@
+//! A step of a walk that reads headers alone, with what it is lent.
+
+use crate::raw::{self, ReadOut, WalkOut, Words};
+use crate::{Reading, Refusal, Table};
+
+/// How units stand in a recording.
+#[derive(Clone, Copy, Debug, PartialEq, Eq)]
+pub(crate) enum Framing {
+    /// Behind start codes.
+    StartCodes,
+    /// Behind lengths of 4 bytes.
+    Length,
+}
+
+/// What a walk is lent, and what its last step gave.
+pub(crate) struct Lent {
+    /// For parameter sets alone, as long as the longest that has come: all else is read where it stands.
+    scratch: Vec<u8>,
+    words: Box<Words>,
+    pub(crate) out: WalkOut,
+}
+
+/// Enough for nearly every parameter set.
+const SCRATCH: usize = 256;
+const BUFFER_TOO_SHORT: u32 = 26;
+
+impl Lent {
+    pub(crate) fn new() -> Lent {
+        Lent {
+            scratch: vec![0; SCRATCH],
+            words: Box::default(),
+            out: WalkOut::default(),
+        }
+    }
+
+    /// One step from a place on. Where scratch is too short for a set, nothing was changed by it: scratch is lengthened, and the step taken again.
+    pub(crate) fn step(
+        &mut self,
+        framing: Framing,
+        table: &mut Table,
+        recording: &[u8],
+        from: usize,
+    ) {
+        let walk = match framing {
+            Framing::StartCodes => raw::walk_headers,
+            Framing::Length => raw::walk_framed_headers,
+        };
+        loop {
+            let (scratch, words, out) = (&mut self.scratch, &mut self.words, &mut self.out);
+            walk(table.as_raw_mut(), recording, from, scratch, words, out);
+            let short =
+                out.step == 1 && out.read.answer == 3 && out.read.number == BUFFER_TOO_SHORT;
+            if !short {
+                return;
+            }
+            self.lengthen(self.out.read.value as usize);
+        }
+    }
+
+    fn lengthen(&mut self, length: usize) {
+        if self.scratch.len() < length {
+            self.scratch.resize(length, 0);
+        }
+    }
+
+    /// A unit by itself, its set put into the table: for one that is too long for a walk.
+    pub(crate) fn unit(&mut self, table: &mut Table, unit: &[u8]) {
+        self.lengthen(unit.len());
+        let (scratch, words, read) = (&mut self.scratch, &mut self.words, &mut self.out.read);
+        raw::read_unit(table.as_raw(), unit, scratch, words, read);
+        raw::put_read(table.as_raw_mut(), read);
+    }
+
+    /// What is told of a unit over the limit, which is not read.
+    pub(crate) fn too_long(&mut self) {
+        self.out.read = ReadOut::refused(Refusal::new(27, 0));
+        *self.words = Words::default();
+    }
+
+    pub(crate) fn read(&self) -> (&ReadOut, &Words) {
+        (&self.out.read, &self.words)
+    }
+
+    /// What the last step read.
+    pub(crate) fn reading<'a>(&'a self, table: &'a Table, bytes: &'a [u8]) -> Reading<'a> {
+        Reading::new(table, bytes, &self.out.read, &self.words, &[])
+    }
+}
