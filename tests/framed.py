@@ -8,8 +8,8 @@ recordings, half of them damaged: steps chain to the walk, from any place; a uni
 the same units, and from lengths the same bytes; 27, 29, 35, 27 and 26 come in this order, with these values; damage leaves the units before it. Last, the smallest
 damage that reaches behind.
 
-With FILE, the static library that tools/archive makes, its converters answer each of these recordings as the model does, with output that is just long enough, too long and
-too short, and leave every other byte of it as it was; and 27 on recordings of the limit's length. With PROGRAM, `PROGRAM convert` takes clips there and back, byte for byte where all start codes have
+With FILE, the static library that tools/archive makes, its steps and its converters answer each of these recordings as the model does, the converters with output that is
+just long enough, too long and too short, and leave every other byte of it as it was; and 27 on recordings of the limit's length. With PROGRAM, `PROGRAM convert` takes clips there and back, byte for byte where all start codes have
 four bytes; and, where ffmpeg is there, the samples of an MP4 file have the units that its h264_mp4toannexb gives. Exits non-zero and says what differs.
 """
 import argparse
@@ -212,6 +212,12 @@ class Converted(ctypes.Structure):
     _fields_ = [("number", ctypes.c_uint32), ("value", ctypes.c_int64), ("bytes", ctypes.c_size_t)]
 
 
+class Step(ctypes.Structure):
+    """include/tuzmarghil.h, tuz_StepOut."""
+
+    _fields_ = [("step", ctypes.c_uint32), ("number", ctypes.c_uint32), ("value", ctypes.c_int64), ("place", ctypes.c_size_t), ("length", ctypes.c_size_t), ("next", ctypes.c_size_t)]
+
+
 class Library:
     """The archive, as a shared library."""
 
@@ -242,7 +248,27 @@ class Library:
             expect((got.number, got.value, got.bytes) == (*want, 0), f"{name} answers {got.number, got.value, got.bytes}", recording, want)
             expect(out.raw == before[:room], f"{name} is refused, and the output is another", recording)
 
+    def stepped(self, recording, start):
+        """One step from a place."""
+        got = Step()
+        self.library.tuz_next_framed.restype = None
+        self.library.tuz_next_framed(ctypes.byref(got), recording, ctypes.c_size_t(len(recording)), ctypes.c_size_t(start))
+        self.calls += 1
+        came = step(recording, start)
+        if came is None:
+            want = (0, 0, 0, 0, 0, 0)
+        elif isinstance(came[1], bytes):
+            want = (1, 0, 0, came[0], len(came[1]), came[0] + len(came[1]))
+        else:
+            want = (2, *came, 0, 0, 0)
+        expect(tuple(getattr(got, name) for name, _ in Step._fields_) == want, f"tuz_next_framed from {start} is not {want}", recording)
+        return got.next if got.step == 1 else None
+
     def held(self, recording, coded_one, r):
+        start = 0
+        while start is not None:
+            start = self.stepped(recording, start)
+        self.stepped(recording, r.randrange(len(recording) + 3))
         for name, model, given in ("tuz_to_start_codes", to_start_codes, recording), ("tuz_to_lengths", to_lengths, coded_one):
             result = model(given, 2 * len(given) + 4)
             exact = len(result) if isinstance(result, bytes) else r.randrange(len(given) + 1)
@@ -355,7 +381,7 @@ def main():
     print(f"framed: {given.count} recordings framed by length, {converted} of them converted there and back, and as many with start codes")
     if library:
         library.limits()
-        print(f"framed: the library's converters answered {library.calls} times as the model does")
+        print(f"framed: the library answered {library.calls} calls as the model does")
     if given.port:
         on_clips(given.port)
 

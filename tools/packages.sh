@@ -10,8 +10,8 @@ python_packages="librust-pyo3-dev python3 python3-dev python3-numpy"
 manual_packages="groff-base"
 # The libraries of the oracle, the encoders that made the clips, and ffmpeg, for longer clips to tear.
 oracle_packages="librust-bitstream-io-dev librust-memchr-dev x264 libopenh264-dev ffmpeg"
-# The peers of the benchmark, and what compiles them.
-peer_packages="gcc pkg-config libgstreamer-plugins-bad1.0-dev libavcodec-dev"
+# The peers of the benchmark, and what compiles them. GStreamer's pkg-config file asks for libunwind, which its package does not always bring.
+peer_packages="gcc pkg-config libgstreamer-plugins-bad1.0-dev libunwind-dev libavcodec-dev"
 
 # need PACKAGE..: installs those that are missing, as root or by sudo. Where it cannot, the status is 1 and $why says why.
 need() {

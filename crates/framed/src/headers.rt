@@ -4,7 +4,6 @@ use unit::into::ShortAnswer;
 use walk::headers::front_in_turn;
 use walk::walk::Step;
 use walk::walk::WalkedShort;
-ghost use mathlib.Core.Path.{_≡_};
 ghost use Rattle.header.specs.Lead.{tableOf};
 ghost use Rattle.unit.specs.Into.{lentWords};
 ghost use Rattle.walk.specs.WalkedInto.{WalkedInto};

@@ -1,52 +1,25 @@
 // A unit read into words that the caller lends, without its body: a slice's header, or what a prefix unit holds, from the unit itself.
 use crate::body::prefix_body;
-use crate::body::slice_header;
 use bits::refusals::NOT_ITS_HEAD;
 use bits::refusals::refuse;
-use fields::conditions::both;
 use fields::step::End;
+use header::escaped::read_escaped_into;
 use lists::list_words::PrefixStep;
 use syntax::context::PrefixKind;
 use syntax::context::UnitKind;
 use unit::begin::Begun;
 use unit::begin::begin;
-use unit::head::HeadRead;
 use unit::head::UnitHead;
-use unit::head::head;
+use unit::head::is_head_of;
 use unit::into::ShortAnswer;
 use unit::into::clear_words;
 use unit::into::read_body_into;
 ghost use mathlib.Core.Path.{_≡_};
-ghost use Prim.Native.Nat.{_≤_};
-ghost use lib.ListN.{length};
-ghost use Rattle.bits.specs.Refusals.{limit};
 ghost use Rattle.header.specs.Lead.{tableOf};
-ghost use Rattle.unit.specs.Head.{headOf, equal, sameHead};
 ghost use Rattle.unit.specs.Unit.{sliceBits, prefixBits};
 ghost use Rattle.unit.specs.Into.{lentWords, shortAnswer, wordsAfter, ReadInto};
-ghost use Rattle.front.specs.Seam.{bodyBits};
+ghost use Rattle.cut.specs.Seam.{bodyBits};
 ghost use Rattle.front.specs.Front.{bodyFront};
-
-fn equal(a: UnitHead, b: UnitHead) -> bool
-    ensures { λ r. ⌜ r ≡ equal a b ⌝ }
-{
-    let kind = both(
-        a.nal_unit_type == b.nal_unit_type,
-        a.nal_ref_idc == b.nal_ref_idc,
-    );
-    let extension = both(a.b1 == b.b1, both(a.b2 == b.b2, a.b3 == b.b3));
-    both(kind, extension)
-}
-
-// Whether all of an answer is the unit's own.
-fn is_head_of(h: UnitHead, unit: &[u8]) -> bool
-    ensures { λ r. ⌜ r ≡ sameHead h (headOf (now (unit .entry))) ⌝ }
-{
-    match head(unit) {
-        HeadRead::Got(g) => equal(h, g),
-        HeadRead::Refused(_) => false,
-    }
-}
 
 // A slice's header.
 fn slice_into<'a>(
@@ -64,16 +37,15 @@ fn slice_into<'a>(
     w1: &mut [i32; 256],
     base: &mut [u32; 198],
 ) -> ShortAnswer
-    requires { ⌜ (length (now unit) ≤ limit) × (from ≤ 4) ⌝ }
     ensures { λ r. ⌜ r ≡ shortAnswer (sliceBits (tableOf (now (sequences .entry)) (now (pictures .entry))) kind (bodyBits (now (unit .entry)) from)) ⌝ }
     ensures { λ _. ⌜ lentWords numbers signed l0 l1 marking w0 w1 base .exit ≡ wordsAfter (sliceBits (tableOf (now (sequences .entry)) (now (pictures .entry))) kind (bodyBits (now (unit .entry)) from)) (lentWords numbers signed l0 l1 marking w0 w1 base .entry) ⌝ }
 {
-    match slice_header(
+    match read_escaped_into(
+        unit,
+        from,
+        kind,
         sequences,
         pictures,
-        unit,
-        kind,
-        from,
         numbers,
         signed,
         l0,
@@ -103,7 +75,6 @@ fn prefix_into(
     w1: &mut [i32; 256],
     base: &mut [u32; 198],
 ) -> ShortAnswer
-    requires { ⌜ length (now unit) ≤ limit ⌝ }
     ensures { λ r. ⌜ r ≡ shortAnswer (prefixBits kind (bodyBits (now (unit .entry)) 4)) ⌝ }
     ensures { λ _. ⌜ lentWords numbers signed l0 l1 marking w0 w1 base .exit ≡ wordsAfter (prefixBits kind (bodyBits (now (unit .entry)) 4)) (lentWords numbers signed l0 l1 marking w0 w1 base .entry) ⌝ }
 {
@@ -167,52 +138,7 @@ pub fn read_front_into<'a>(
             w1,
             base,
         ),
-        Begun::SequenceSet => read_body_into(
-            head,
-            sequences,
-            pictures,
-            unit,
-            scratch,
-            numbers,
-            signed,
-            l0,
-            l1,
-            marking,
-            w0,
-            w1,
-            base,
-        ),
-        Begun::PictureSet => read_body_into(
-            head,
-            sequences,
-            pictures,
-            unit,
-            scratch,
-            numbers,
-            signed,
-            l0,
-            l1,
-            marking,
-            w0,
-            w1,
-            base,
-        ),
-        Begun::Other(_) => read_body_into(
-            head,
-            sequences,
-            pictures,
-            unit,
-            scratch,
-            numbers,
-            signed,
-            l0,
-            l1,
-            marking,
-            w0,
-            w1,
-            base,
-        ),
-        Begun::Refused(_) => read_body_into(
+        _ => read_body_into(
             head,
             sequences,
             pictures,

@@ -24,7 +24,7 @@ use Rattle.syntax.proofs.Sets.{Few, defaults-few}
 use Rattle.syntax.proofs.Goods.{FewOwn}
 use Rattle.syntax.proofs.Whole.{active-few}
 use Rattle.weights.specs.Counts.{atMost32}
-use Rattle.weights.proofs.Filled.{at-most-32}
+use Rattle.weights.proofs.AtMost.{at-most-32}
 use Rattle.header.specs.declared.lead.Led.{Led}
 use Rattle.header.specs.declared.stages.FrontParts.{FrontParts}
 use Rattle.header.specs.Lead.{ledOf}

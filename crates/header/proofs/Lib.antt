@@ -1,4 +1,3 @@
-pub mod AnySet
 pub mod Sets
 pub mod Unique
 pub mod Split
@@ -6,4 +5,6 @@ pub mod Counts
 pub mod Told
 pub mod Lists
 pub mod Parts
+pub mod Kept
+pub mod Tried
 pub mod Tidy

@@ -8,14 +8,17 @@ use lib.Seq.{sets}
 use Rattle.bits.specs.declared.refusals.Refusal.{Refusal}
 use Rattle.bits.specs.declared.read.Cursor.{Cursor}
 use Rattle.bits.specs.Refusals.{Res, got, no}
+use Rattle.bits.specs.Bits.{Bits}
+use Rattle.syntax.specs.declared.context.Context.{Context}
+use Rattle.syntax.specs.SliceHeader.{predWeightTable}
 use Rattle.syntax.specs.declared.record.PredWeightTable.{PredWeightTable}
 use Rattle.syntax.specs.declared.record.Modifications.{Modifications}
 use Rattle.syntax.specs.declared.record.DecRefPicMarking.{DecRefPicMarking}
 use Rattle.syntax.specs.declared.record.SliceHeader.{SliceHeader}
 use Rattle.fields.specs.declared.step.End.{End}
-use Rattle.lists.specs.Leaves.{leaves}
 use Rattle.lists.specs.ListsLent.{listWords}
-use Rattle.weights.specs.WeightsLent.{weightsStep, weightsLeft, weightWords, weightsShort}
+use Rattle.weights.specs.WeightsLent.{weightsStep, l0Begun, l1Begun, weightWords, weightsShort}
+use Rattle.weights.proofs.Left.{l0-all, l1-all}
 use Rattle.header.specs.Short.{HeaderWords, emptied, headerIn, zeros, headerEnd, headerLeft}
 use Rattle.header.specs.Told.{ListsTold, MarksTold, Filled, listsOf, marksOf}
 use Rattle.weights.specs.declared.weight_words.WeightsStep.{WeightsStep}
@@ -33,12 +36,18 @@ pub record Read {A : Type 0} (m : Res A) (e : ℕ) (P : A → Type 0) : Type 0 w
 
 -- ---- the weights
 
-pub weights-got : (m : Res PredWeightTable) (b0 b1 : List ℤ) {a : WeightsStep} {w0 w1 : List ℤ} {n : WeightsShort} {c : Cursor}
-    → a ≡ weightsStep m → w0 ≡ weightsLeft (λ t. t .l0) m b0 → w1 ≡ weightsLeft (λ t. t .l1) m b1 → a ≡ WeightsStep.Got n c
-    → Read m (c .at) (λ t. (n ≡ weightsShort t) × ((w0 ≡ sets b0 0 (weightWords (t .l0))) × (w1 ≡ sets b1 0 (weightWords (t .l1)))))
-unfolding leaves
-weights-got (got t e) b0 b1 {c = c} h k0 k1 g = let p : e ≡ c .at = cc in record { value = t; read = cc; holds = (cc, (k0, k1)) }
-weights-got (no r) b0 b1 h k0 k1 g = let z : _≡_ {A = ℕ} 0 1 = cc in absurd (omega arith)
+pub weights-got : (x : Context) (k i j : ℕ) (s : Bits) (at : ℕ) (b0 b1 : List ℤ) {a : WeightsStep} {w0 w1 : List ℤ} {n : WeightsShort} {c : Cursor}
+    → a ≡ weightsStep (predWeightTable x k i j .read s at) → w0 ≡ sets b0 0 (l0Begun x k i s at) → w1 ≡ sets b1 0 (l1Begun x k i j s at) → a ≡ WeightsStep.Got n c
+    → Read (predWeightTable x k i j .read s at) (c .at) (λ t. (n ≡ weightsShort t) × ((w0 ≡ sets b0 0 (weightWords (t .l0))) × (w1 ≡ sets b1 0 (weightWords (t .l1)))))
+weights-got x k i j s at b0 b1 {a} {w0} {w1} {n} {c} h k0 k1 g = go (predWeightTable x k i j .read s at) refl
+  where
+    go : (m : Res PredWeightTable) → predWeightTable x k i j .read s at ≡ m
+        → Read (predWeightTable x k i j .read s at) (c .at) (λ t. (n ≡ weightsShort t) × ((w0 ≡ sets b0 0 (weightWords (t .l0))) × (w1 ≡ sets b1 0 (weightWords (t .l1)))))
+    go (got t e) q =
+        let z : WeightsStep.Got n c ≡ WeightsStep.Got (weightsShort t) (record { at = e }) = sym g ∙ h ∙ ap weightsStep q in
+        let p : e ≡ c .at = cc in
+        record { value = t; read = rw (← p) q; holds = (cc, (k0 ∙ ap (sets b0 0) (l0-all x k i j s at t e q), k1 ∙ ap (sets b1 0) (l1-all x k i j s at t e q))) }
+    go (no r) q = let y : WeightsStep.Got n c ≡ WeightsStep.Refused r = sym g ∙ h ∙ ap weightsStep q in let z : _≡_ {A = ℕ} 0 1 = cc in absurd (omega arith)
 
 pub weights-refused : (m : Res PredWeightTable) {a : WeightsStep} {r : Refusal} → a ≡ weightsStep m → a ≡ WeightsStep.Refused r → m ≡ no r
 weights-refused (got t e) h g = let z : _≡_ {A = ℕ} 0 1 = cc in absurd (omega arith)

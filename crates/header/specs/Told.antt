@@ -1,4 +1,4 @@
--- What the private stages of reading into lent words say: beside a refusal, nothing of the words.
+-- What the private stages of reading into lent words say. Beside a refusal the words are `Kept` for a reading of more bits.
 use Prim.Native.Nat.{ℕ, _+_}
 use mathlib.Core.Path.{_≡_}
 use mathlib.Core.List.{List}
@@ -70,6 +70,10 @@ behindFront n l f i j s c =
 -- with as many as the code has: at most 32
 abbrev pub behind : UnitKind → Led → FrontParts → Bits → ℕ → Res SliceHeader
 behind n l f = behindFront n l f (atMost32 (activeL0 (contextOf n l) (f .«active_counts»))) (atMost32 (activeL1 (contextOf n l) (f .«active_counts»)))
+
+-- a header that is read of more bits is written over what was left in the words just as over the words as they were before
+unfoldable pub Kept : (Bits → Res SliceHeader) → (before words : HeaderWords) → Type 0
+Kept reads before words = (t : Bits) (h : SliceHeader) (e : ℕ) → reads t ≡ got h e → headerIn h words ≡ headerIn h before
 
 unfoldable pub Filled : Res SliceHeader → End → (before words : HeaderWords) → Type 0
 Filled (got h e) a before words = (a ≡ End.At (record { at = e })) × (words ≡ headerIn h before)

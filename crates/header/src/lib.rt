@@ -4,4 +4,5 @@ pub mod lead; // first_mb_in_slice to pic_parameter_set_id, and the sets
 pub mod follows; // whether a set bit follows
 pub mod stages; // the parts after it, in stages
 pub mod slice; // the whole
+pub mod escaped; // the whole, from a unit that is still escaped
 mod words; // its fields as words

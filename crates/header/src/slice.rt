@@ -38,7 +38,7 @@ use fields::step::why_flag;
 use lists::list_words::ListStep;
 use lists::list_words::clear_list;
 use lists::list_words::empty_list;
-use lists::list_words::operations_into;
+use lists::list_words::operations_onto;
 use lists::list_words::why_list;
 use lists::marking::marking_kind;
 use lists::modification::modification_kind;
@@ -54,16 +54,22 @@ use weights::weight_words::WeightsShort;
 use weights::weight_words::WeightsStep;
 use weights::weight_words::clear_weights;
 use weights::weight_words::empty_weights;
-use weights::weight_words::weights_into;
+use weights::weight_words::weights_onto;
 use weights::weight_words::why_weights;
 ghost use mathlib.Core.Path.{_≡_};
+ghost use mathlib.Core.List.{_++_};
+ghost use Prim.Native.Nat.{_≤_};
+ghost use lib.ListN.{length};
+ghost use lib.Seq.{sets};
 ghost use Rattle.bits.specs.Bits.{bitsOf};
 ghost use Rattle.syntax.specs.SliceHeader.{readHeader, modifications, predWeightTable, decRefPicMarking, activeL0, activeL1};
 ghost use Rattle.weights.specs.Counts.{atMost32};
 ghost use Rattle.header.specs.Lead.{tableOf};
-ghost use Rattle.weights.specs.WeightsLent.{weightsStep, weightsLeft};
+ghost use Rattle.lists.specs.Leaves.{Covered};
+ghost use Rattle.lists.specs.ListsLent.{listWords};
+ghost use Rattle.weights.specs.WeightsLent.{weightsStep, l0Begun, l1Begun};
 ghost use Rattle.header.specs.Short.{headerWords, emptied, zeros, headerEnd, headerLeft};
-ghost use Rattle.header.specs.Told.{ListsTold, MarksTold, Filled, behind, whyLists, whyMarks};
+ghost use Rattle.header.specs.Told.{ListsTold, MarksTold, Filled, Kept, behind, whyLists, whyMarks};
 
 // The header's record without its lists. Of each list it has the count: how many entries of the lent words are used.
 #[repr(C)]
@@ -132,7 +138,7 @@ fn why_marks(a: MarksStep) -> Refusal
     }
 }
 
-// The private stages say nothing of the words beside a refusal: `read_header_into` clears them.
+// The private stages clear no words beside a refusal: what was read before it is read again where more bits are tried, and `read_header_into` clears them at the end.
 fn lists_into(
     s: &[u8],
     c: Cursor,
@@ -142,13 +148,15 @@ fn lists_into(
     l1: &mut [u32; 198],
 ) -> ListsStep
     ensures { λ r. ⌜ ListsTold (modifications x «slice_type» .read (bitsOf (now (s .entry))) (c .at)) r (now (l0 .entry)) (now (l1 .entry)) (now (l0 .exit)) (now (l1 .exit)) ⌝ }
+    ensures { λ r. ⌜ Covered (λ m. listWords (m .l0 .operations)) (modifications x «slice_type») (bitsOf (now (s .entry))) (c .at) (now (l0 .entry)) (now (l0 .exit)) ⌝ }
+    ensures { λ r. ⌜ Covered (λ m. listWords (m .l1 .operations)) (modifications x «slice_type») (bitsOf (now (s .entry))) (c .at) (now (l1 .entry)) (now (l1 .exit)) ⌝ }
 {
     let a1 = first_flag(s, c, x, slice_type);
     let FlagStep::Got(flag0, c1) = a1 else {
         return ListsStep::Refused(why_flag(a1));
     };
     let codes = modification_kind(x.kind.mvc);
-    let a2 = operations_into(s, c1, flag0.value, codes, l0);
+    let a2 = operations_onto(s, c1, flag0.value, codes, l0);
     let ListStep::Got(count0, c2) = a2 else {
         return ListsStep::Refused(why_list(a2));
     };
@@ -156,7 +164,7 @@ fn lists_into(
     let FlagStep::Got(flag1, c3) = a3 else {
         return ListsStep::Refused(why_flag(a3));
     };
-    let a4 = operations_into(s, c3, flag1.value, codes, l1);
+    let a4 = operations_onto(s, c3, flag1.value, codes, l1);
     let ListStep::Got(count1, c4) = a4 else {
         return ListsStep::Refused(why_list(a4));
     };
@@ -173,13 +181,14 @@ fn lists_into(
 
 fn marks_into(s: &[u8], c: Cursor, x: Context, words: &mut [u32; 198]) -> MarksStep
     ensures { λ r. ⌜ MarksTold (decRefPicMarking x .read (bitsOf (now (s .entry))) (c .at)) r (now (words .entry)) (now (words .exit)) ⌝ }
+    ensures { λ r. ⌜ Covered (λ d. listWords (d .operations)) (decRefPicMarking x) (bitsOf (now (s .entry))) (c .at) (now (words .entry)) (now (words .exit)) ⌝ }
 {
     let a1 = marking_flags(s, c, x);
     let MarkingStep::Got(flags, c1) = a1 else {
         return MarksStep::Refused(why_marking(a1));
     };
     let adaptive = flags.adaptive_ref_pic_marking_mode_flag;
-    let a2 = operations_into(s, c1, adaptive.value, marking_kind(), words);
+    let a2 = operations_onto(s, c1, adaptive.value, marking_kind(), words);
     let ListStep::Got(count, c2) = a2 else {
         return MarksStep::Refused(why_list(a2));
     };
@@ -196,8 +205,8 @@ fn weights_for_into(
     w1: &mut [i32; 256],
 ) -> WeightsStep
     ensures { λ r. ⌜ r ≡ weightsStep (predWeightTable x «slice_type» (atMost32 (activeL0 x a)) (atMost32 (activeL1 x a)) .read (bitsOf (now (s .entry))) (c .at)) ⌝ }
-    ensures { λ r. ⌜ now (w0 .exit) ≡ weightsLeft (λ t. t .l0) (predWeightTable x «slice_type» (atMost32 (activeL0 x a)) (atMost32 (activeL1 x a)) .read (bitsOf (now (s .entry))) (c .at)) (now (w0 .entry)) ⌝ }
-    ensures { λ r. ⌜ now (w1 .exit) ≡ weightsLeft (λ t. t .l1) (predWeightTable x «slice_type» (atMost32 (activeL0 x a)) (atMost32 (activeL1 x a)) .read (bitsOf (now (s .entry))) (c .at)) (now (w1 .entry)) ⌝ }
+    ensures { λ r. ⌜ now (w0 .exit) ≡ sets (now (w0 .entry)) 0 (l0Begun x «slice_type» (atMost32 (activeL0 x a)) (bitsOf (now (s .entry))) (c .at)) ⌝ }
+    ensures { λ r. ⌜ now (w1 .exit) ≡ sets (now (w1 .entry)) 0 (l1Begun x «slice_type» (atMost32 (activeL0 x a)) (atMost32 (activeL1 x a)) (bitsOf (now (s .entry))) (c .at)) ⌝ }
 {
     let n0 = active(
         a.num_ref_idx_l0_active_minus1,
@@ -207,7 +216,7 @@ fn weights_for_into(
         a.num_ref_idx_l1_active_minus1,
         x.picture.num_ref_idx_l1_default_active_minus1,
     );
-    weights_into(s, c, x, slice_type, n0, n1, w0, w1)
+    weights_onto(s, c, x, slice_type, n0, n1, w0, w1)
 }
 
 // What follows num_ref_idx_l1_active_minus1. A function of its own, so that no stage stands behind many tests: the compiler takes what does for rare, and neither
@@ -227,6 +236,7 @@ fn behind(
     w1: &mut [i32; 256],
 ) -> End
     ensures { λ r. ⌜ Filled (behind kind l f (bitsOf (now (s .entry))) (c .at)) r (headerWords numbers signed l0 l1 marking w0 w1 .entry) (headerWords numbers signed l0 l1 marking w0 w1 .exit) ⌝ }
+    ensures { λ r. ⌜ (c .at ≤ length (bitsOf (now (s .entry))) → Kept (λ t. behind kind l f (bitsOf (now (s .entry)) ++ t) (c .at)) (headerWords numbers signed l0 l1 marking w0 w1 .entry) (headerWords numbers signed l0 l1 marking w0 w1 .exit)) ⌝ }
 {
     let picture = l.picture;
     let sequence = l.sequence;
@@ -290,7 +300,7 @@ fn behind(
     End::At(c6)
 }
 
-fn fill<'a>(
+pub(crate) fn fill<'a>(
     s: &'a [u8],
     kind: UnitKind,
     sequences: &'a [u32; 224],
@@ -304,6 +314,7 @@ fn fill<'a>(
     w1: &mut [i32; 256],
 ) -> End
     ensures { λ r. ⌜ Filled (readHeader (tableOf (now (sequences .entry)) (now (pictures .entry))) kind (bitsOf (now (s .entry)))) r (headerWords numbers signed l0 l1 marking w0 w1 .entry) (headerWords numbers signed l0 l1 marking w0 w1 .exit) ⌝ }
+    ensures { λ r. ⌜ Kept (λ t. readHeader (tableOf (now (sequences .entry)) (now (pictures .entry))) kind (bitsOf (now (s .entry)) ++ t)) (headerWords numbers signed l0 l1 marking w0 w1 .entry) (headerWords numbers signed l0 l1 marking w0 w1 .exit) ⌝ }
 {
     let a1 = lead(s, Cursor { at: 0 }, sequences, pictures);
     let LeadStep::Got(l, c1) = a1 else {
@@ -346,7 +357,7 @@ pub fn clear_header(
 }
 
 // Before a header is laid down, what the counts of the one before say is in use becomes zeros. Where all counts are 0 that is a test for each.
-fn empty_lists(
+pub(crate) fn empty_lists(
     numbers: &mut [u32; 57],
     signed: &mut [i32; 7],
     l0: &mut [u32; 198],

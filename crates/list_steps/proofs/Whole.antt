@@ -37,7 +37,6 @@ use Rattle.list_steps.specs.Listing.{
   refusedOnes,
   wholeText,
   listing,
-  framedText,
   framedListing,
   start,
   oneMore,

@@ -1,114 +1,96 @@
--- A list read into lent words: what the words hold at each turn of the loop, and what is left in them.
-use Prim.Native.Nat.{ℕ, suc, _+_, _*_, _<_}
+-- A list in lent words: what is left in them.
+use Prim.Native.Nat.{ℕ, _≤_}
 use mathlib.Core.Path.{_≡_, refl, ap, sym, _∙_}
-use mathlib.Core.List.{List, [], _∷_, _++_, flatMap, map}
+use mathlib.Core.List.{List, [], _++_, flatMap}
+use mathlib.Core.Bool.{Bool, true, false}
 use native.Mathlib.Omega.{arith}
-use lib.ListN.{length, set, replicate, length-append}
+use lib.ListN.{length, replicate}
 use lib.Seq.{sets}
 use Rattle.bits.specs.declared.read.Cursor.{Cursor}
 use Rattle.bits.specs.declared.refusals.Refusal.{Refusal}
 use Rattle.bits.specs.Bits.{Bits}
 use Rattle.bits.specs.Refusals.{Res, got, no}
-use Rattle.fmt.specs.Arrays.{pad}
-use Rattle.fmt.proofs.Arrays.{column-next}
+use Rattle.bits.proofs.Results.{cases, under}
+use Rattle.fmt.specs.Fmt.{shaped, until}
 use Rattle.syntax.specs.declared.record.Operations.{Operations}
-use Rattle.syntax.specs.Lists.{Operation, entries, noOperations, toOperations, ofOperations}
-use Rattle.syntax.proofs.Operations.{of-to-operations}
-use Rattle.lists.specs.declared.operations.ListKind.{ListKind}
+use Rattle.syntax.specs.Lists.{Operation, Kind, entries, code, operands, operations, operationsIf, noOperations, toOperations, ofOperations}
+use Rattle.syntax.proofs.Operations.{of-to-operations, code-lawful, operands-lawful}
 use Rattle.lists.specs.declared.list_words.ListStep.{ListStep}
-use Rattle.lists.specs.Leaves.{leaves, Written}
-use Rattle.lists.specs.ListsLent.{operationWords, listWords, listStep, listLeft}
-use Rattle.lists.proofs.Reading.{Reading, started}
-use Rattle.lists.proofs.Fronts.{front-next}
-
-abbrev arrays : ℕ → List ℕ → List ℕ → List ℕ → Operations
-arrays n xs ys zs = record { count = n; codes = xs; first = ys; second = zs }
-
--- an entry's words, as code stores them: at k, k + 1 and k + 2
-entry-written : (t : List ℕ) (k a b c : ℕ) → set (set (set t k a) (k + 1) b) (k + 2) c ≡ sets t k (a ∷ b ∷ c ∷ [])
-entry-written t k a b c =
-    let p : k + 1 ≡ suc k = omega arith in
-    let q : k + 2 ≡ suc (suc k) = omega arith in
-    λ i. set (set (set t k a) (p i) b) (q i) c
-
-module _ (kind : ListKind) (s : Bits) (from : ℕ) where
-  module _ {xs ys zs : List ℕ} {n at : ℕ} (a : Reading kind s from xs ys zs n at) where
-    -- the entries that have been passed are those in the arrays
-    passed : ofOperations (arrays n xs ys zs) ≡ a .list
-    unfolding toOperations
-    passed = (λ i. ofOperations (arrays (a .count i) (a .xs-is i) (a .ys-is i) (a .zs-is i))) ∙ of-to-operations (a .list)
-
-    module _ (o : Operation) (m : n < entries) where
-      column : (f : Operation → ℕ) (ws : List ℕ) → ws ≡ pad 0 entries (map f (a .list)) → set ws n (f o) ≡ pad 0 entries (map f (a .list ++ (o ∷ [])))
-      column f ws q = rw (q, a .count) (column-next 0 entries f (a .list) o (omega (arith, a .count)))
-
-      -- with one more in each array there is one entry more
-      passed-more : ofOperations (arrays (n + 1) (set xs n (o .0)) (set ys n (o .1 .0)) (set zs n (o .1 .1))) ≡ a .list ++ (o ∷ [])
-      unfolding toOperations
-      passed-more =
-          let k : n + 1 ≡ length (a .list ++ (o ∷ [])) = omega (arith, a .count, length-append (a .list) (o ∷ [])) in
-          let x = column (λ (o : Operation). o .0) xs (a .xs-is) in
-          let y = column (λ (o : Operation). o .1 .0) ys (a .ys-is) in
-          let z = column (λ (o : Operation). o .1 .1) zs (a .zs-is) in
-          (λ i. ofOperations (arrays (k i) (x i) (y i) (z i))) ∙ of-to-operations (a .list ++ (o ∷ []))
-
-  module _ (before : List ℕ) where
-    -- some entries have been passed, and stand over the front of the words
-    pub record Held (words : List ℕ) (n at : ℕ) : Type 0 where
-      pub xs : List ℕ
-      pub ys : List ℕ
-      pub zs : List ℕ
-      pub reading : Reading kind s from xs ys zs n at
-      pub front : words ≡ sets before 0 (listWords (arrays n xs ys zs))
-
-    pub held-none : Held before 0 from
-    unfolding listWords ofOperations flatMap
-    held-none = record { xs = replicate 66 0; ys = replicate 66 0; zs = replicate 66 0; reading = started kind s from; front = refl }
-
-    pub held-more : {words : List ℕ} {n at : ℕ} (h : Held words n at) → n < 66 → (v u w e : ℕ)
-        → Reading kind s from (set (h .xs) n v) (set (h .ys) n u) (set (h .zs) n w) (n + 1) e
-        → Held (set (set (set words (3 * n) v) (3 * n + 1) u) (3 * n + 2) w) (n + 1) e
-    unfolding listWords
-    held-more {words} {n} h m v u w e r =
-        let a = h .reading in
-        let o : Operation = (v, (u, w)) in
-        record {
-          xs = set (h .xs) n v;
-          ys = set (h .ys) n u;
-          zs = set (h .zs) n w;
-          reading = r;
-          front =
-              entry-written words (3 * n) v u w
-              ∙ rw (h .front, passed a, a .count) (front-next operationWords 3 (λ _. refl) before (a .list) o)
-              ∙ ap (λ (l : List Operation). sets before 0 (flatMap operationWords l)) (sym (passed-more a o m));
-        }
-
--- the loop's answers, by what was found
-pub fill-refused : {m : Res Operations} {r : Refusal} (before words : List ℕ) → no r ≡ m → (ListStep.Refused r ≡ listStep m) × Written listWords m before words
-unfolding listStep Written
-fill-refused before words h = rw (← h) (refl, tt)
-
-pub fill-ended : {m : Res Operations} {o : Operations} {e : ℕ} (before : List ℕ) {words : List ℕ} → words ≡ sets before 0 (listWords o) → got o e ≡ m
-    → (ListStep.Got (o .count) (record { at = e }) ≡ listStep m) × Written listWords m before words
-unfolding listStep Written
-fill-ended before w h = rw (← h) (refl, w)
+use Rattle.lists.specs.Begun.{untilBegun}
+use Rattle.lists.specs.Leaves.{leaves, Covered}
+use Rattle.lists.specs.ListsLent.{operationWords, listWords, listStep, listLeft, listBegun}
+use Rattle.lists.proofs.Reading.{list-there, list-absent}
+use Rattle.lists.proofs.Begun.{until-all, until-few}
+use Rattle.lists.proofs.Fronts.{length-flat, sets-over}
 
 -- no list has no words
 pub no-list : listWords noOperations ≡ []
 unfolding listWords ofOperations flatMap
 no-list = refl
 
--- what is left in the words: what was there, a list that was read, zeros beside a refusal
-pub left-absent : {m : Res Operations} {at : ℕ} (words : List ℕ) → got noOperations at ≡ m → (ListStep.Got 0 (record { at = at }) ≡ listStep m) × (words ≡ listLeft m words)
-unfolding listStep leaves
-left-absent words h = rw (← h) (refl, rw no-list)
+module _ (b : Bool) (k : Kind) (s : Bits) (at : ℕ) where
+  abbrev entriesBegun : List Operation
+  entriesBegun = untilBegun (code k) (k .closing) (operands k) entries s at
 
-pub left-read : (m : Res Operations) (before : List ℕ) {a : ListStep} {n : ℕ} {c : Cursor} {words : List ℕ} → a ≡ listStep m → a ≡ ListStep.Got n c → Written listWords m before words
-    → words ≡ listLeft m before
-unfolding listStep leaves Written
-left-read (got o e) before h g f = f
-left-read (no r) before h g f = cc
+  all-there : b ≡ true → (o : Operations) (e : ℕ) → operationsIf b k .read s at ≡ got o e → flatMap operationWords entriesBegun ≡ listWords o
+  unfolding operations shaped listWords
+  all-there t o e h =
+      under (until (code k) (k .closing) (operands k) entries .read s at) _ (list-there b k s at t ∙ h) (λ l d hl j.
+      let w : toOperations l ≡ o = cc in
+      ap (flatMap operationWords) (until-all (code k) (k .closing) (operands k) s entries at l d hl ∙ sym (rw (← w) (of-to-operations l))))
 
+  all-absent : b ≡ false → (o : Operations) (e : ℕ) → operationsIf b k .read s at ≡ got o e → [] ≡ listWords o
+  all-absent f o e h = let w : got noOperations at ≡ got o e = list-absent b k s at f ∙ h in let v : noOperations ≡ o = cc in rw (← v) (sym no-list)
+
+  -- the words of a list that is read are those of the entries that are read before it ends
+  pub begun-all : (o : Operations) (e : ℕ) → operationsIf b k .read s at ≡ got o e → listBegun b k s at ≡ listWords o
+  unfolding listBegun flatMap
+  begun-all o e h = cases b (λ t. rw t (all-there t o e h)) (λ f. rw f (all-absent f o e h))
+
+  few-there : (t : Bits) → at ≤ length s → b ≡ true → (o : Operations) (e : ℕ) → operationsIf b k .read (s ++ t) at ≡ got o e
+      → length (flatMap operationWords entriesBegun) ≤ length (listWords o)
+  unfolding operations shaped listWords
+  few-there t m u o e h =
+      under (until (code k) (k .closing) (operands k) entries .read (s ++ t) at) _ (list-there b k (s ++ t) at u ∙ h) (λ l d hl j.
+      let w : toOperations l ≡ o = cc in
+      rw (← w, of-to-operations l)
+      (omega (
+        arith,
+        length-flat operationWords 3 (λ _. refl) entriesBegun,
+        length-flat operationWords 3 (λ _. refl) l,
+        until-few (code k) (k .closing) (operands k) s (code-lawful k) (operands-lawful k) t entries at m l d hl,
+      )))
+
+  -- and where bits are added behind, no more of them are read before
+  begun-few : (t : Bits) → at ≤ length s → (o : Operations) (e : ℕ) → operationsIf b k .read (s ++ t) at ≡ got o e → length (listBegun b k s at) ≤ length (listWords o)
+  unfolding listBegun flatMap
+  begun-few t m o e h = cases b (λ u. rw u (few-there t m u o e h)) (λ f. rw f (omega arith))
+
+  -- so a longer input's list stands over what was left in the words
+  pub list-covered : (before words : List ℕ) → words ≡ sets before 0 (listBegun b k s at) → Covered listWords (operationsIf b k) s at before words
+  unfolding Covered
+  list-covered before words w m t o e h = rw w (sets-over before 0 (listBegun b k s at) (listWords o) (begun-few t m o e h))
+
+  -- reading it, where it is there and where it is not
+  pub onto-there : (before : List ℕ) {r : ListStep} {words : List ℕ} → b ≡ true → (r ≡ listStep (operations k .read s at)) × (words ≡ sets before 0 (listBegun true k s at))
+      → (r ≡ listStep (operationsIf b k .read s at)) × (words ≡ sets before 0 (listBegun b k s at))
+  onto-there before t h = rw (← list-there b k s at t, t) h
+
+  pub onto-absent : (before : List ℕ) → b ≡ false → (ListStep.Got 0 (record { at = at }) ≡ listStep (operationsIf b k .read s at)) × (before ≡ sets before 0 (listBegun b k s at))
+  unfolding listStep listBegun flatMap
+  onto-absent before f = rw (← list-absent b k s at f, f) (refl, refl)
+
+  -- what is left in the words: a list that was read
+  pub left-read : (before : List ℕ) {a : ListStep} {n : ℕ} {c : Cursor} {words : List ℕ} → a ≡ listStep (operationsIf b k .read s at) → a ≡ ListStep.Got n c
+      → words ≡ sets before 0 (listBegun b k s at) → words ≡ listLeft (operationsIf b k .read s at) before
+  unfolding listStep leaves
+  left-read before {a} {n} {c} {words} h g f = go (operationsIf b k .read s at) refl
+    where
+      go : (m : Res Operations) → operationsIf b k .read s at ≡ m → words ≡ listLeft (operationsIf b k .read s at) before
+      go (got o e) q = rw q (f ∙ ap (sets before 0) (begun-all o e q))
+      go (no r) q = let z : ListStep.Got n c ≡ ListStep.Refused r = sym g ∙ h ∙ ap listStep q in cc
+
+-- and zeros beside a refusal
 pub left-refused : (m : Res Operations) (before : List ℕ) {a : ListStep} {r : Refusal} {words : List ℕ} → a ≡ listStep m → a ≡ ListStep.Refused r → words ≡ replicate 198 0
     → words ≡ listLeft m before
 unfolding listStep leaves
@@ -134,6 +116,11 @@ pub list-refused : (m : Res Operations) {a : ListStep} {r : Refusal} → a ≡ l
 unfolding listStep
 list-refused (got o e) h g = let z : _≡_ {A = ℕ} 0 1 = cc in absurd (omega arith)
 list-refused (no r) h g = cc
+
+-- the same of a stage that does not clear the words
+pub list-onto : (b : Bool) (k : Kind) (s : Bits) (at : ℕ) {a : ListStep} {n : ℕ} {c : Cursor} (before : List ℕ) {words : List ℕ} → a ≡ listStep (operationsIf b k .read s at)
+    → words ≡ sets before 0 (listBegun b k s at) → a ≡ ListStep.Got n c → Listed (operationsIf b k .read s at) n c before words
+list-onto b k s at before h w g = list-read (operationsIf b k .read s at) h (left-read b k s at before h g w) g
 
 pub list-cleared : (m : Res Operations) (before : List ℕ) {a : ListStep} {r : Refusal} {words : List ℕ} → a ≡ listStep m → words ≡ listLeft m before → a ≡ ListStep.Refused r
     → words ≡ replicate 198 0

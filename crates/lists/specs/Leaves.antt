@@ -1,8 +1,12 @@
 -- What reading leaves in lent words.
 use mathlib.Core.Path.{_≡_}
-use mathlib.Core.List.{List}
+use Prim.Native.Nat.{ℕ, _≤_}
+use mathlib.Core.List.{List, _++_}
+use lib.ListN.{length}
 use lib.Seq.{sets}
 use Rattle.bits.specs.Refusals.{Res, got, no}
+use Rattle.bits.specs.Bits.{Bits}
+use Rattle.fmt.specs.Fmt.{Fmt}
 
 module _ {A B : Type 0} where
   -- what was read is written over the front of the words, which are otherwise as before; beside a refusal they are zeros
@@ -10,7 +14,6 @@ module _ {A B : Type 0} where
   leaves zeros words (got a e) before = sets before 0 (words a)
   leaves zeros words (no r) before = zeros
 
-  -- a private stage says nothing of the words after a refusal: its caller clears them
-  unfoldable pub Written : (A → List B) → Res A → (before after : List B) → Type 0
-  Written words (got a e) before after = after ≡ sets before 0 (words a)
-  Written words (no r) before after = Unit {0}
+  -- private contracts: what reading a longer input at the same place would write is written over the words as they were before just as over what was left in them
+  unfoldable pub Covered : (A → List B) → Fmt A → Bits → ℕ → (before after : List B) → Type 0
+  Covered words F s at before after = at ≤ length s → (t : Bits) (a : A) (e : ℕ) → F .read (s ++ t) at ≡ got a e → sets after 0 (words a) ≡ sets before 0 (words a)

@@ -1,3 +1,4 @@
 pub mod Kinds
+pub mod Begun
 pub mod Leaves
 pub mod ListsLent

@@ -1,15 +1,18 @@
 -- A list in lent words: what reading it answers, and what it leaves in them.
 use Prim.Native.Nat.{ℕ, _*_}
 use mathlib.Core.List.{List, [], _∷_, flatMap}
+use mathlib.Core.Bool.{Bool}
 use lib.Dec.{leb}
 use lib.ListN.{replicate}
 use lib.Seq.{sets}
 use Rattle.bits.specs.declared.refusals.Refusal.{Refusal}
 use Rattle.bits.specs.Refusals.{Res, got, no, pick}
 use Rattle.bits.specs.Answers.{none}
+use Rattle.bits.specs.Bits.{Bits}
 use Rattle.syntax.specs.declared.record.Operations.{Operations}
 use Rattle.syntax.specs.declared.record.Prefix.{Prefix}
-use Rattle.syntax.specs.Lists.{Operation, ofOperations}
+use Rattle.syntax.specs.Lists.{Operation, Kind, entries, code, operands, ofOperations}
+use Rattle.lists.specs.Begun.{untilBegun}
 use Rattle.lists.specs.Leaves.{leaves}
 use Rattle.lists.specs.declared.list_words.ListStep.{ListStep}
 use Rattle.lists.specs.declared.list_words.PrefixShort.{PrefixShort}
@@ -29,6 +32,10 @@ listStep (no r) = ListStep.Refused r
 
 abbrev pub listLeft : Res Operations → List ℕ → List ℕ
 listLeft = leaves (replicate 198 0) listWords
+
+-- the words of the entries that are read before the list ends or is refused, of a list that is there only if b
+unfoldable pub listBegun : Bool → Kind → Bits → ℕ → List ℕ
+listBegun b k s at = flatMap operationWords (pick b (untilBegun (code k) (k .closing) (operands k) entries s at) [])
 
 abbrev pub whyList : ListStep → Refusal
 whyList (ListStep.Got n c) = none

@@ -20,13 +20,14 @@ use fields::step::why_flag;
 use syntax::context::PrefixKind;
 use syntax::marks::MarkedFlag;
 ghost use mathlib.Core.Path.{_≡_};
+ghost use mathlib.Core.Bool.{true};
 ghost use lib.ListN.{replicate};
+ghost use lib.Seq.{sets};
 ghost use Rattle.bits.specs.Bits.{bitsOf};
 ghost use Rattle.syntax.specs.Lists.{operations, operationsIf};
 ghost use Rattle.syntax.specs.Prefix.{baseMarkingKind, hasBaseMarking, prefix};
 ghost use Rattle.lists.specs.Kinds.{kindOf};
-ghost use Rattle.lists.specs.Leaves.{Written};
-ghost use Rattle.lists.specs.ListsLent.{listWords, listStep, listLeft, whyList, atMost66, emptiedList, prefixStep, prefixLeft};
+ghost use Rattle.lists.specs.ListsLent.{listStep, listLeft, listBegun, whyList, atMost66, emptiedList, prefixStep, prefixLeft};
 
 // The count, and the place after the closing code; the list stands in the words.
 pub enum ListStep {
@@ -74,10 +75,10 @@ struct Filled {
     at: Cursor,
 }
 
-// The loop of `operations`. After a refusal the words hold what was read before it.
+// The loop of `operations`. After a refusal the words hold the entries that were read before it.
 fn fill(s: &[u8], c: Cursor, kind: ListKind, words: &mut [u32; 198]) -> ListStep
     ensures { λ r. ⌜ r ≡ listStep (operations (kindOf kind) .read (bitsOf (now (s .entry))) (c .at)) ⌝ }
-    ensures { λ r. ⌜ Written listWords (operations (kindOf kind) .read (bitsOf (now (s .entry))) (c .at)) (now (words .entry)) (now (words .exit)) ⌝ }
+    ensures { λ r. ⌜ now (words .exit) ≡ sets (now (words .entry)) 0 (listBegun true (kindOf kind) (bitsOf (now (s .entry))) (c .at)) ⌝ }
 {
     let mut count: u32 = 0;
     let mut at = c;
@@ -111,7 +112,25 @@ fn fill(s: &[u8], c: Cursor, kind: ListKind, words: &mut [u32; 198]) -> ListStep
     ListStep::Got(got.count, end)
 }
 
-// A list that is there only under a condition. The words stay as they were where there is none, and are zeros beside a refusal.
+// A list that is there only under a condition, over the words as far as it is read: beside a refusal they hold the entries that were read before it. Where the
+// same list is read again from a longer input, its entries stand over these.
+pub fn operations_onto(
+    s: &[u8],
+    c: Cursor,
+    there: bool,
+    kind: ListKind,
+    words: &mut [u32; 198],
+) -> ListStep
+    ensures { λ r. ⌜ r ≡ listStep (operationsIf there (kindOf kind) .read (bitsOf (now (s .entry))) (c .at)) ⌝ }
+    ensures { λ r. ⌜ now (words .exit) ≡ sets (now (words .entry)) 0 (listBegun there (kindOf kind) (bitsOf (now (s .entry))) (c .at)) ⌝ }
+{
+    if !there {
+        return ListStep::Got(0, c);
+    }
+    fill(s, c, kind, words)
+}
+
+// The same, with zeros in all words beside a refusal.
 pub fn operations_into(
     s: &[u8],
     c: Cursor,
@@ -122,10 +141,7 @@ pub fn operations_into(
     ensures { λ r. ⌜ r ≡ listStep (operationsIf there (kindOf kind) .read (bitsOf (now (s .entry))) (c .at)) ⌝ }
     ensures { λ r. ⌜ now (words .exit) ≡ listLeft (operationsIf there (kindOf kind) .read (bitsOf (now (s .entry))) (c .at)) (now (words .entry)) ⌝ }
 {
-    if !there {
-        return ListStep::Got(0, c);
-    }
-    let a = fill(s, c, kind, words);
+    let a = operations_onto(s, c, there, kind, words);
     let ListStep::Got(_, _) = a else {
         clear_list(words);
         return a;

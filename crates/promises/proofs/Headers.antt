@@ -20,7 +20,7 @@ use Rattle.unit.specs.declared.begin.Begun.{Begun}
 use Rattle.unit.specs.Answer.{only, sliceAnswer, prefixAnswer}
 use Rattle.unit.specs.Begin.{begun}
 use Rattle.unit.specs.Unit.{sliceBits, prefixBits, unitRead}
-use Rattle.front.specs.Seam.{bodyBits}
+use Rattle.cut.specs.Seam.{bodyBits}
 use Rattle.front.specs.Front.{isFronted, unitFront}
 use Rattle.front.proofs.Cases.{front-slice, front-prefix}
 use Rattle.front.proofs.Units.{front-left, front-whole}

@@ -87,7 +87,7 @@ fn equal(a: UnitHead, b: UnitHead) -> bool
 }
 
 // Whether all of an answer is the unit's own.
-pub(crate) fn is_head_of(h: UnitHead, unit: &[u8]) -> bool
+pub fn is_head_of(h: UnitHead, unit: &[u8]) -> bool
     ensures { λ r. ⌜ r ≡ sameHead h (headOf (now (unit .entry))) ⌝ }
 {
     match head(unit) {

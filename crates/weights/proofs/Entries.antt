@@ -1,17 +1,13 @@
--- A list's entries as words: an entry is written behind those before it.
-use Prim.Native.Nat.{ℕ, zero, suc, _+_, _*_, _<_}
+-- An entry's words, as code stores them.
+use Prim.Native.Nat.{ℕ, suc, _+_}
 use mathlib.Core.Path.{_≡_, refl, ap, sym, _∙_}
-use mathlib.Core.List.{List, [], _∷_, _++_, flatMap, append-nil, append-assoc}
+use mathlib.Core.List.{List, [], _∷_}
 use native.Mathlib.Omega.{arith}
-use native.Mathlib.Nat.{zero-add, add-comm, mul-zero, mul-suc}
-use native.Mathlib.Numerals.{add-one}
-use lib.IntN.{ℤ, pos}
-use lib.ListN.{length, set, take, replicate, length-append, replicate-append-replicate}
-use lib.Seq.{sets, length-take-le, take-suc-set}
-use Rattle.syntax.specs.SliceHeader.{noWeight}
+use lib.IntN.{ℤ}
+use lib.ListN.{set}
+use lib.Seq.{sets}
 use Rattle.syntax.specs.declared.record.Weight.{Weight}
 use Rattle.weights.specs.WeightsLent.{flagWord, entryWords}
-use Rattle.lists.proofs.Fronts.{front-next}
 
 -- ---- runs of stores
 
@@ -27,17 +23,6 @@ module _ {A : Type 0} where
   -- as code stores them: at k, k + 1, k + 2, ..
   stored : (t : List A) (k : ℕ) (a : A) (w : List A) → sets t k (a ∷ w) ≡ storeFrom (set t k a) k 1 w
   stored t k a w = ap (λ (i : ℕ). sets (set t k a) i w) (omega arith) ∙ stores w (set t k a) k 1
-
--- ---- elements of n words each
-
-module _ {A B : Type 0} (f : A → List B) (n : ℕ) where
-  -- the words of element i are written behind those of the elements before it
-  pub flat-next : ((a : A) → length (f a) ≡ n) → (t : List B) (xs : List A) (i : ℕ) (a : A) → i < length xs
-      → sets (sets t 0 (flatMap f (take i xs))) (n * i) (f a) ≡ sets t 0 (flatMap f (take (i + 1) (set xs i a)))
-  flat-next size t xs i a h =
-      ap (λ (k : ℕ). sets (sets t 0 (flatMap f (take i xs))) (n * k) (f a)) (sym (length-take-le i xs (omega arith)))
-      ∙ front-next f n size t (take i xs) a
-      ∙ rw (add-one, take-suc-set xs i a h)
 
 -- ---- entries
 

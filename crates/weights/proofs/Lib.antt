@@ -1,7 +1,8 @@
-pub mod Filled
+pub mod AtMost
 pub mod Joined
 pub mod Tables
 pub mod Unique
 pub mod Entries
 pub mod Stored
+pub mod Left
 pub mod Tidy

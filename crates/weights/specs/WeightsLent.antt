@@ -7,12 +7,18 @@ use lib.ListN.{take, replicate}
 use lib.Seq.{sets}
 use Rattle.bits.specs.Refusals.{Res, got, no, pick}
 use Rattle.bits.specs.Answers.{none}
+use Rattle.bits.specs.Bits.{Bits}
 use Rattle.bits.specs.declared.refusals.Refusal.{Refusal}
+use Rattle.fmt.specs.Leaves.{ue}
+use Rattle.syntax.specs.declared.context.Context.{Context}
 use Rattle.syntax.specs.declared.record.Weight.{Weight}
 use Rattle.syntax.specs.declared.record.WeightList.{WeightList}
 use Rattle.syntax.specs.declared.record.PredWeightTable.{PredWeightTable}
+use Rattle.syntax.specs.Context.{isB, hasChroma, isWeighted}
+use Rattle.syntax.specs.Marks.{numberIf}
+use Rattle.syntax.specs.SliceHeader.{weight, weightList}
 use Rattle.weights.specs.Counts.{atMost32}
-use Rattle.lists.specs.Leaves.{leaves}
+use Rattle.lists.specs.Begun.{after, timesBegun}
 use Rattle.weights.specs.declared.weight_words.WeightsShort.{WeightsShort}
 use Rattle.weights.specs.declared.weight_words.WeightsStep.{WeightsStep}
 use Rattle.weights.specs.declared.weight_words.ListStep.{ListStep}
@@ -29,9 +35,27 @@ entryWords w =
 unfoldable pub weightWords : WeightList → List ℤ
 weightWords l = flatMap entryWords (take (l .count) (l .entries))
 
--- what is left in a list's words
-abbrev pub weightsLeft : (PredWeightTable → WeightList) → Res PredWeightTable → List ℤ → List ℤ
-weightsLeft list = leaves (replicate 256 (pos 0)) (λ t. weightWords (list t))
+-- the words of a list's entries that are read before it ends or is refused
+abbrev pub entriesBegun : Bool → ℕ → Bits → ℕ → List ℤ
+entriesBegun chroma n s at = flatMap entryWords (timesBegun n (weight chroma) s at)
+
+-- and of each list in the table
+unfoldable pub l0Begun : Context → ℕ → ℕ → Bits → ℕ → List ℤ
+l0Begun x k n0 s at =
+    pick (isWeighted x k)
+    (after (ue .read s at) (λ luma c.
+    after (numberIf (hasChroma x) ue .read s c) (λ chroma d.
+    entriesBegun (hasChroma x) n0 s d)))
+    []
+
+unfoldable pub l1Begun : Context → ℕ → ℕ → ℕ → Bits → ℕ → List ℤ
+l1Begun x k n0 n1 s at =
+    pick (isWeighted x k)
+    (after (ue .read s at) (λ luma c.
+    after (numberIf (hasChroma x) ue .read s c) (λ chroma d.
+    after (weightList (hasChroma x) n0 .read s d) (λ l0 e.
+    entriesBegun (hasChroma x) (pick (isB k) n1 0) s e))))
+    []
 
 -- the entries that a count says are in use are zeroed, and no more
 unfoldable pub emptiedWeights : ℕ → List ℤ → List ℤ

@@ -27,8 +27,7 @@ ghost use lib.Seq.{sets};
 ghost use Rattle.bits.specs.Bits.{bitsOf};
 ghost use Rattle.syntax.specs.SliceHeader.{weightList, predWeightTable};
 ghost use Rattle.weights.specs.Counts.{atMost32};
-ghost use Rattle.lists.specs.Leaves.{Written};
-ghost use Rattle.weights.specs.WeightsLent.{flagWord, entryWords, weightWords, weightsLeft, emptiedWeights, weightsStep, whyWeights, listStep, whyList};
+ghost use Rattle.weights.specs.WeightsLent.{flagWord, entryWords, entriesBegun, l0Begun, l1Begun, emptiedWeights, weightsStep, whyWeights, listStep, whyList};
 
 // The table without its entries: l0 and l1 are their counts. An entry is eight words, in the syntax's order, with flags as 0 and 1.
 #[repr(C)]
@@ -120,10 +119,10 @@ fn store(words: &mut [i32; 256], i: usize, w: Weight)
     words[k + 7] = cr_offset;
 }
 
-// n entries, at most 32. After a refusal the words hold what was read before it.
+// n entries, at most 32. After a refusal the words hold the entries that were read before it.
 fn list_into(s: &[u8], c: Cursor, chroma: bool, n: u32, words: &mut [i32; 256]) -> ListStep
     ensures { λ r. ⌜ r ≡ listStep (weightList chroma (atMost32 n) .read (bitsOf (now (s .entry))) (c .at)) ⌝ }
-    ensures { λ r. ⌜ Written weightWords (weightList chroma (atMost32 n) .read (bitsOf (now (s .entry))) (c .at)) (now (words .entry)) (now (words .exit)) ⌝ }
+    ensures { λ r. ⌜ now (words .exit) ≡ sets (now (words .entry)) 0 (entriesBegun chroma (atMost32 n) (bitsOf (now (s .entry))) (c .at)) ⌝ }
 {
     let count = at_most_32(n);
     let mut i: u32 = 0;
@@ -141,8 +140,9 @@ fn list_into(s: &[u8], c: Cursor, chroma: bool, n: u32, words: &mut [i32; 256]) 
     ListStep::Got(count, at)
 }
 
-// The table for lists of n0 and n1 references, at most 32 each. After a refusal the words hold what was read before it.
-fn table_into(
+// The table for lists of n0 and n1 references, at most 32 each. Words that hold no entry stay as they were; beside a refusal the words hold the entries that were
+// read before it, as with `operations_onto`.
+pub fn weights_onto(
     s: &[u8],
     c: Cursor,
     x: Context,
@@ -153,8 +153,8 @@ fn table_into(
     w1: &mut [i32; 256],
 ) -> WeightsStep
     ensures { λ r. ⌜ r ≡ weightsStep (predWeightTable x «slice_type» (atMost32 n0) (atMost32 n1) .read (bitsOf (now (s .entry))) (c .at)) ⌝ }
-    ensures { λ r. ⌜ Written (λ t. weightWords (t .l0)) (predWeightTable x «slice_type» (atMost32 n0) (atMost32 n1) .read (bitsOf (now (s .entry))) (c .at)) (now (w0 .entry)) (now (w0 .exit)) ⌝ }
-    ensures { λ r. ⌜ Written (λ t. weightWords (t .l1)) (predWeightTable x «slice_type» (atMost32 n0) (atMost32 n1) .read (bitsOf (now (s .entry))) (c .at)) (now (w1 .entry)) (now (w1 .exit)) ⌝ }
+    ensures { λ r. ⌜ now (w0 .exit) ≡ sets (now (w0 .entry)) 0 (l0Begun x «slice_type» (atMost32 n0) (bitsOf (now (s .entry))) (c .at)) ⌝ }
+    ensures { λ r. ⌜ now (w1 .exit) ≡ sets (now (w1 .entry)) 0 (l1Begun x «slice_type» (atMost32 n0) (atMost32 n1) (bitsOf (now (s .entry))) (c .at)) ⌝ }
 {
     if !is_weighted(x, slice_type) {
         return WeightsStep::Got(
@@ -198,28 +198,4 @@ fn table_into(
         },
         c4,
     )
-}
-
-// The table as `table_into` reads it. Words that hold no entry stay as they were; all are zeros beside a refusal.
-pub fn weights_into(
-    s: &[u8],
-    c: Cursor,
-    x: Context,
-    slice_type: u32,
-    n0: u32,
-    n1: u32,
-    w0: &mut [i32; 256],
-    w1: &mut [i32; 256],
-) -> WeightsStep
-    ensures { λ r. ⌜ r ≡ weightsStep (predWeightTable x «slice_type» (atMost32 n0) (atMost32 n1) .read (bitsOf (now (s .entry))) (c .at)) ⌝ }
-    ensures { λ r. ⌜ now (w0 .exit) ≡ weightsLeft (λ t. t .l0) (predWeightTable x «slice_type» (atMost32 n0) (atMost32 n1) .read (bitsOf (now (s .entry))) (c .at)) (now (w0 .entry)) ⌝ }
-    ensures { λ r. ⌜ now (w1 .exit) ≡ weightsLeft (λ t. t .l1) (predWeightTable x «slice_type» (atMost32 n0) (atMost32 n1) .read (bitsOf (now (s .entry))) (c .at)) (now (w1 .entry)) ⌝ }
-{
-    let a = table_into(s, c, x, slice_type, n0, n1, w0, w1);
-    let WeightsStep::Got(_, _) = a else {
-        clear_weights(w0);
-        clear_weights(w1);
-        return a;
-    };
-    a
 }

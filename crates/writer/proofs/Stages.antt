@@ -1,12 +1,12 @@
 -- A stage hands its place along from one field to the next: a field that was refused leads nowhere, and so do all fields after it.
-use Prim.Native.Nat.{ℕ, _*_, _≤_, _<_}
-use mathlib.Core.Path.{_≡_, refl, subst⁻¹}
+use Prim.Native.Nat.{ℕ, _+_, _*_, _≤_, _<_}
+use mathlib.Core.Path.{_≡_, refl, _∙_, subst⁻¹}
 use mathlib.Core.List.{List}
 use mathlib.Core.Bool.{Bool, true, false}
 use native.Mathlib.Omega.{arith}
 use native.Mathlib.Decide.{decLt}
-use borrow.Author.Tests.{lt-ltb, le-ltb}
-use lib.Dec.{T, ltb, lit<}
+use borrow.Author.Tests.{lt-ltb, le-ltb, le-leb}
+use lib.Dec.{T, leb, ltb, lit<}
 use lib.IntN.{ℤ, pos}
 use lib.ListN.{length}
 use Rattle.bits.specs.Refusals.{pick, refusal, noBits}
@@ -19,6 +19,9 @@ use Rattle.bits.proofs.Slices.{length-bits}
 use Rattle.fmt.specs.Fmt.{Fmt, seq, shaped, test}
 use Rattle.fmt.specs.Put.{Put, done, none}
 use Rattle.fmt.proofs.Puts.{Done, Stopped, answered, stopped, stop, not-good, seq-put, seq-stop, shaped-put, test-put}
+use Rattle.syntax.specs.declared.marks.MarkedNumber.{MarkedNumber}
+use Rattle.syntax.specs.SliceHeader.{activeOf}
+use Rattle.weights.specs.Counts.{atMost32}
 use Rattle.writer.specs.Places.{nowhere, placeOf, reached, PutTo}
 
 -- ---- no bit has the place `nowhere`
@@ -116,3 +119,12 @@ module _ {A B : Type 0} (F : Fmt A) (G : A → Fmt B) (a : A) (b : B) {d : List 
 pub data Loop {A : Type 0} (F : Fmt A) (a : A) (d : List ℕ) (at : ℕ) (Along : Type 0) (e : ℕ) : Type 0 where
   going : Along → Loop F a d at Along e
   over : nowhere ≤ e → Stopped F a d at → Loop F a d at Along e
+
+-- ---- how many references a list has: a count over 31 has led nowhere before it is asked for
+pub active-few : (m : MarkedNumber) (default : ℕ) {r : ℕ} → r ≡ atMost32 (activeOf m default) → m .value ≤ 31 → default ≤ 31 → r ≡ activeOf m default
+unfolding atMost32
+active-few m default e h k = e ∙ go (m .there)
+  where
+    go : (b : Bool) → pick (leb (pick b (m .value) default + 1) 32) (pick b (m .value) default + 1) 32 ≡ pick b (m .value) default + 1
+    go true = rw (le-leb (m .value + 1) 32 (omega arith))
+    go false = rw (le-leb (default + 1) 32 (omega arith))

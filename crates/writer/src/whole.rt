@@ -11,34 +11,24 @@ use crate::quantiser::put_quantiser;
 use crate::weight_table::put_pred_weight_table;
 use bits::read::Cursor;
 use bits::refusals::SLICE_TYPE;
+use header::stages::active;
 use record::parts_of::active_counts_of;
 use record::parts_of::filter_of;
 use record::parts_of::frame_of;
 use record::parts_of::order_count_of;
 use record::parts_of::quantiser_of;
 use syntax::context::Context;
-use syntax::marks::MarkedNumber;
 use syntax::record::Filter;
 use syntax::record::Quantiser;
 ghost use mathlib.Core.Bool.{true};
 ghost use mathlib.Core.Path.{_≡_};
 ghost use Prim.Native.Nat.{_≤_};
-ghost use Rattle.syntax.specs.SliceHeader.{activeOf, ofHeader};
+ghost use Rattle.syntax.specs.SliceHeader.{ofHeader};
 ghost use Rattle.header.specs.Short.{headerWords};
 ghost use Rattle.record.specs.Fields.{numberIn};
 ghost use Rattle.record.specs.Record.{plainNumbers, headerFrom};
 ghost use Rattle.writer.specs.Places.{PutTo};
 ghost use Rattle.writer.specs.Stages.{knownLead, back, middle, fields};
-
-// How many references a list has. A count over 31 has led nowhere before it is asked for, and any answer does.
-fn active(m: MarkedNumber, default: u32) -> u32
-    ensures { λ r. ⌜ (m .value ≤ 31 → default ≤ 31 → r ≡ activeOf m default) ⌝ }
-{
-    if m.there {
-        return m.value % 32 + 1;
-    }
-    default % 32 + 1
-}
 
 // first_mb_in_slice to pic_parameter_set_id, which has been looked up.
 fn put_lead(d: &mut [u8], first_mb: u32, slice_type: u32, picture: u32) -> Cursor

@@ -86,3 +86,86 @@ impl Lent {
         Reading::new(table, bytes, &self.out.read, &self.words, &[])
     }
 }
+
+/// What the bytes at hand come to.
+pub(crate) enum Found {
+    /// A unit that lies in the buffer.
+    Unit { from: usize, to: usize },
+    /// A unit over the limit.
+    TooLong { place: u64, length: u64 },
+}
+
+/// What a stream of units tells, over its `find`, `read_more`, `table`, `lent`, `buffer` and the place `base` of the buffer's first byte.
+macro_rules! telling {
+    ($stream:ident, $next:expr) => {
+        impl<R: Read> $stream<R> {
+            /// The table after the units that have been reported.
+            pub fn table(&self) -> &Table {
+                &self.table
+            }
+
+            #[doc = $next]
+            pub fn next_unit(&mut self) -> io::Result<Option<crate::StreamReport<'_>>> {
+                loop {
+                    if let Some(found) = self.find(true) {
+                        return Ok(Some(self.report(found)));
+                    }
+                    if !self.read_more()? {
+                        return Ok(None);
+                    }
+                }
+            }
+
+            /// The next unit with its head alone: bodies are not read, so a parameter set does not go into the table.
+            pub fn next_head(&mut self) -> io::Result<Option<crate::StreamHead<'_>>> {
+                loop {
+                    if let Some(found) = self.find(false) {
+                        return Ok(Some(self.head(found)));
+                    }
+                    if !self.read_more()? {
+                        return Ok(None);
+                    }
+                }
+            }
+
+            /// The next unit that has come whole; nothing where [`Self::read_more`] must be asked first.
+            pub fn next_unit_at_hand(&mut self) -> Option<crate::StreamReport<'_>> {
+                let found = self.find(true)?;
+                Some(self.report(found))
+            }
+
+            /// The same, with the unit's head alone.
+            pub fn next_head_at_hand(&mut self) -> Option<crate::StreamHead<'_>> {
+                let found = self.find(false)?;
+                Some(self.head(found))
+            }
+
+            fn head(&self, found: Found) -> crate::StreamHead<'_> {
+                match found {
+                    Found::Unit { from, to } => {
+                        let (place, bytes) = (self.base + from as u64, &self.buffer[from..to]);
+                        crate::StreamHead::new(place, bytes.len() as u64, Some(bytes))
+                    }
+                    Found::TooLong { place, length } => crate::StreamHead::new(place, length, None),
+                }
+            }
+
+            fn report(&mut self, found: Found) -> crate::StreamReport<'_> {
+                let (place, length, bytes) = match found {
+                    Found::Unit { from, to } => {
+                        let place = self.base + from as u64;
+                        (place, (to - from) as u64, &self.buffer[from..to])
+                    }
+                    Found::TooLong { place, length } => {
+                        self.lent.too_long();
+                        (place, length, &[][..])
+                    }
+                };
+                let reading = self.lent.reading(&self.table, bytes);
+                crate::StreamReport::new(place, length, reading)
+            }
+        }
+    };
+}
+
+pub(crate) use telling;

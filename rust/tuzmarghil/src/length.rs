@@ -3,10 +3,10 @@
 //! A step of the proved walk looks at nothing before the place that it is asked from, and at nothing behind the unit that it finds. So it is asked of the bytes that are at
 //! hand: where they are too few for the length that stands there, it answers 29, and more are read, until the source has ended.
 
-use crate::headers::{Framing, Lent};
+use crate::headers::{telling, Found, Framing, Lent};
 use crate::raw;
 use crate::stream::{lengthen, PIECE};
-use crate::{Refusal, StreamHead, StreamReport, Table, LIMIT};
+use crate::{Refusal, Table, LIMIT};
 use std::io::{self, Read};
 
 /// The bytes of a length.
@@ -54,14 +54,6 @@ pub struct LengthFramed<R> {
     lent: Lent,
 }
 
-/// What the bytes at hand come to.
-enum Found {
-    /// A unit that lies in the buffer.
-    Unit { from: usize, to: usize },
-    /// A unit over the limit.
-    TooLong { place: u64, length: u64 },
-}
-
 impl<R: Read> LengthFramed<R> {
     /// The recording that `source` gives, with an empty table.
     pub fn new(source: R) -> LengthFramed<R> {
@@ -94,51 +86,10 @@ impl<R: Read> LengthFramed<R> {
         self.base + self.at as u64
     }
 
-    /// The table after the units that have been reported.
-    pub fn table(&self) -> &Table {
-        &self.table
-    }
-
     /// Refusal 29 with the place of a broken length, once the units before it have been told: fewer bytes are left than it says, or than it has. It ends the recording.
     pub fn broken(&self) -> Option<Refusal> {
         let refusal = |place| Refusal::new(BROKEN_LENGTH, place as i64);
         self.broken.map(refusal)
-    }
-
-    /// The next unit; nothing at the end, or where a length is broken ([`LengthFramed::broken`]).
-    pub fn next_unit(&mut self) -> io::Result<Option<StreamReport<'_>>> {
-        loop {
-            if let Some(found) = self.find(true) {
-                return Ok(Some(self.report(found)));
-            }
-            if !self.read_more()? {
-                return Ok(None);
-            }
-        }
-    }
-
-    /// The next unit with its head alone: bodies are not read, so a parameter set does not go into the table.
-    pub fn next_head(&mut self) -> io::Result<Option<StreamHead<'_>>> {
-        loop {
-            if let Some(found) = self.find(false) {
-                return Ok(Some(self.head(found)));
-            }
-            if !self.read_more()? {
-                return Ok(None);
-            }
-        }
-    }
-
-    /// The next unit that has come whole; nothing where [`LengthFramed::read_more`] must be asked first.
-    pub fn next_unit_at_hand(&mut self) -> Option<StreamReport<'_>> {
-        let found = self.find(true)?;
-        Some(self.report(found))
-    }
-
-    /// The same, with the unit's head alone.
-    pub fn next_head_at_hand(&mut self) -> Option<StreamHead<'_>> {
-        let found = self.find(false)?;
-        Some(self.head(found))
     }
 
     /// Reads from the source once; false where all has been read before.
@@ -231,31 +182,12 @@ impl<R: Read> LengthFramed<R> {
         self.at = self.filled;
         None
     }
-
-    fn head(&self, found: Found) -> StreamHead<'_> {
-        match found {
-            Found::Unit { from, to } => {
-                let (place, bytes) = (self.base + from as u64, &self.buffer[from..to]);
-                StreamHead::new(place, bytes.len() as u64, Some(bytes))
-            }
-            Found::TooLong { place, length } => StreamHead::new(place, length, None),
-        }
-    }
-
-    fn report(&mut self, found: Found) -> StreamReport<'_> {
-        let (place, length, bytes) = match found {
-            Found::Unit { from, to } => {
-                let place = self.base + from as u64;
-                (place, (to - from) as u64, &self.buffer[from..to])
-            }
-            Found::TooLong { place, length } => {
-                self.lent.too_long();
-                (place, length, &[][..])
-            }
-        };
-        StreamReport::new(place, length, self.lent.reading(&self.table, bytes))
-    }
 }
+
+telling!(
+    LengthFramed,
+    "The next unit; nothing at the end, or where a length is broken ([`LengthFramed::broken`])."
+);
 
 /// What the four bytes of a length say.
 fn length_of(four: &[u8]) -> usize {

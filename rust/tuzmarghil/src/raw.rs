@@ -61,61 +61,7 @@ extern "C" {
         base: *mut ListWords,
     );
     fn tuz_next_unit(out: *mut StepOut, recording: *const u8, recording_len: usize, from: usize);
-    fn tuz_walk(
-        out: *mut WalkOut,
-        sequences: *mut [u32; 224],
-        pictures: *mut [u32; 2304],
-        recording: *const u8,
-        recording_len: usize,
-        from: usize,
-        scratch: *mut u8,
-        scratch_len: usize,
-        numbers: *mut NumberWords,
-        signed: *mut SignedWords,
-        l0: *mut ListWords,
-        l1: *mut ListWords,
-        marking: *mut ListWords,
-        w0: *mut WeightWords,
-        w1: *mut WeightWords,
-        base: *mut ListWords,
-    );
-    fn tuz_walk_headers(
-        out: *mut WalkOut,
-        sequences: *mut [u32; 224],
-        pictures: *mut [u32; 2304],
-        recording: *const u8,
-        recording_len: usize,
-        from: usize,
-        scratch: *mut u8,
-        scratch_len: usize,
-        numbers: *mut NumberWords,
-        signed: *mut SignedWords,
-        l0: *mut ListWords,
-        l1: *mut ListWords,
-        marking: *mut ListWords,
-        w0: *mut WeightWords,
-        w1: *mut WeightWords,
-        base: *mut ListWords,
-    );
     fn tuz_next_framed(out: *mut StepOut, recording: *const u8, recording_len: usize, from: usize);
-    fn tuz_walk_framed_headers(
-        out: *mut WalkOut,
-        sequences: *mut [u32; 224],
-        pictures: *mut [u32; 2304],
-        recording: *const u8,
-        recording_len: usize,
-        from: usize,
-        scratch: *mut u8,
-        scratch_len: usize,
-        numbers: *mut NumberWords,
-        signed: *mut SignedWords,
-        l0: *mut ListWords,
-        l1: *mut ListWords,
-        marking: *mut ListWords,
-        w0: *mut WeightWords,
-        w1: *mut WeightWords,
-        base: *mut ListWords,
-    );
     fn tuz_to_start_codes(
         result: *mut ConvertedOut,
         recording: *const u8,
@@ -501,6 +447,26 @@ macro_rules! walks {
             words: &mut Words,
             out: &mut WalkOut,
         ) {
+            extern "C" {
+                fn $call(
+                    out: *mut WalkOut,
+                    sequences: *mut [u32; 224],
+                    pictures: *mut [u32; 2304],
+                    recording: *const u8,
+                    recording_len: usize,
+                    from: usize,
+                    scratch: *mut u8,
+                    scratch_len: usize,
+                    numbers: *mut NumberWords,
+                    signed: *mut SignedWords,
+                    l0: *mut ListWords,
+                    l1: *mut ListWords,
+                    marking: *mut ListWords,
+                    w0: *mut WeightWords,
+                    w1: *mut WeightWords,
+                    base: *mut ListWords,
+                );
+            }
             asked();
             let (q, p) = (&mut table.sequences, &mut table.pictures);
             let (r, rn) = (recording.as_ptr(), recording.len());

@@ -4,7 +4,7 @@
 //! last mark (`00 00 00` or `00 00 01`) that has come. Nothing is lost by that. A start code never begins before a mark and reaches into it; and where the cut takes
 //! away a unit's end mark, what is left of it are zero bytes, which the walk drops at a recording's end.
 
-use crate::headers::{Framing, Lent};
+use crate::headers::{telling, Found, Framing, Lent};
 use crate::raw::{self, HeadOut, ReadOut, Words};
 use crate::{Reading, Refusal, Table, Unit, UnitHead, LIMIT};
 use std::io::{self, Read};
@@ -138,14 +138,6 @@ struct Long {
     end: u64,
 }
 
-/// What the bytes at hand come to.
-enum Found {
-    /// A unit that lies in the buffer.
-    Unit { from: usize, to: usize },
-    /// A unit over the limit.
-    TooLong { place: u64, length: u64 },
-}
-
 /// How much is read at a time; the buffer grows where a unit is longer.
 pub(crate) const PIECE: usize = 8 << 20;
 
@@ -190,47 +182,6 @@ impl<R: Read> Stream<R> {
     /// How far the recording is read; at its end, its length.
     pub fn position(&self) -> u64 {
         self.base + self.at as u64
-    }
-
-    /// The table after the units that have been reported.
-    pub fn table(&self) -> &Table {
-        &self.table
-    }
-
-    /// The next unit; nothing at the end. A unit is there as soon as its end mark has come.
-    pub fn next_unit(&mut self) -> io::Result<Option<StreamReport<'_>>> {
-        loop {
-            if let Some(found) = self.find(true) {
-                return Ok(Some(self.report(found)));
-            }
-            if !self.read_more()? {
-                return Ok(None);
-            }
-        }
-    }
-
-    /// The next unit with its head alone: bodies are not read, so a parameter set does not go into the table.
-    pub fn next_head(&mut self) -> io::Result<Option<StreamHead<'_>>> {
-        loop {
-            if let Some(found) = self.find(false) {
-                return Ok(Some(self.head(found)));
-            }
-            if !self.read_more()? {
-                return Ok(None);
-            }
-        }
-    }
-
-    /// The next unit that has come whole; nothing where [`Stream::read_more`] must be asked first.
-    pub fn next_unit_at_hand(&mut self) -> Option<StreamReport<'_>> {
-        let found = self.find(true)?;
-        Some(self.report(found))
-    }
-
-    /// The same, with the unit's head alone.
-    pub fn next_head_at_hand(&mut self) -> Option<StreamHead<'_>> {
-        let found = self.find(false)?;
-        Some(self.head(found))
     }
 
     /// Reads from the source once; false where all has been read before.
@@ -300,30 +251,6 @@ impl<R: Read> Stream<R> {
         self.lent.step(codes, table, window, self.at);
         let out = &self.lent.out;
         (out.step == 1).then_some((out.place, out.length, out.next))
-    }
-
-    fn head(&self, found: Found) -> StreamHead<'_> {
-        match found {
-            Found::Unit { from, to } => {
-                let (place, bytes) = (self.base + from as u64, &self.buffer[from..to]);
-                StreamHead::new(place, bytes.len() as u64, Some(bytes))
-            }
-            Found::TooLong { place, length } => StreamHead::new(place, length, None),
-        }
-    }
-
-    fn report(&mut self, found: Found) -> StreamReport<'_> {
-        let (place, length, bytes) = match found {
-            Found::Unit { from, to } => {
-                let place = self.base + from as u64;
-                (place, (to - from) as u64, &self.buffer[from..to])
-            }
-            Found::TooLong { place, length } => {
-                self.lent.too_long();
-                (place, length, &[][..])
-            }
-        };
-        StreamReport::new(place, length, self.lent.reading(&self.table, bytes))
     }
 
     /// Drops the buffer's first bytes; the window is then empty.
@@ -407,6 +334,11 @@ impl<R: Read> Stream<R> {
         last.map_or(0, |i| self.base + i as u64 + 1)
     }
 }
+
+telling!(
+    Stream,
+    "The next unit; nothing at the end. A unit is there as soon as its end mark has come."
+);
 
 /// Makes it so long at least, and no longer: a unit can have as many bytes as nearly all of what we promise to need.
 pub(crate) fn lengthen(bytes: &mut Vec<u8>, length: usize) {

@@ -1,9 +1,9 @@
 use native.Mathlib.Omega.{arith}
-use mathlib.Core.Path.{_≡_, refl, sym, ap, _∙_}
+use mathlib.Core.Path.{refl, sym, _∙_}
 use lib.Seq.{take-all}
-use Rattle.front.specs.Seam.{bodyBits, behindBits, near}
+use Rattle.cut.specs.Seam.{bodyBits, behindBits, near}
 use lib.ListN.{take}
-use Rattle.front.proofs.Seams.{cut-bits}
+use Rattle.cut.proofs.Seams.{cut-bits}
 use Rattle.front.proofs.Steps.{prefix-kept, prefix-refusal-kept}
 use borrow.Author.Needs.{needs}
 use Rattle.front.proofs.body.prefix_body.Statement.{statement}

@@ -1,4 +1,4 @@
-use Rattle.front.specs.Seam.{bodyBits}
+use Rattle.cut.specs.Seam.{bodyBits}
 use Rattle.front.proofs.Answers.{prefix-right, prefix-cleared}
 use borrow.Author.Needs.{needs}
 use Rattle.front.proofs.into.prefix_into.Statement.{statement}

@@ -1,10 +1,9 @@
-use mathlib.Core.Path.{_≡_, refl, sym, ap, _∙_}
+use mathlib.Core.Path.{refl, sym, ap, _∙_}
 use Rattle.header.specs.Lead.{tableOf}
 use borrow.Author.Tests.{not-true, not-false}
-use Rattle.unit.proofs.Cases.{begun-small}
 use Rattle.unit.proofs.Held.{refused-into}
 use Rattle.front.specs.Front.{isFronted}
-use Rattle.front.proofs.Cases.{from-few, front-slice, front-prefix, front-own, front-34, front-as-body}
+use Rattle.front.proofs.Cases.{other, front-slice, front-prefix, front-own, front-34, front-as-body}
 use borrow.Author.Needs.{needs}
 use Rattle.front.proofs.into.read_front_into.Statement.{statement}
 use Rattle.front.proofs.into.read_front_into.Tie as tie
@@ -14,12 +13,6 @@ returns c =
     let a = c .before .before .before .before .before .before .before .before .before .before .before .before .before .before .args in
     let e = sym (c .before .before .before .before .before .before .before .before .before .before .before .is-head-of .ensures) ∙ not-true _ (c .before .before .before .before .before .before .before .before .before .before .if1 .taken) in
     rw (c .refuse .ensures) (refused-into (front-34 (tableOf (a .sequences .now) (a .pictures .now)) (a .unit .now) (a .scratch .now) (a .head) e) _ (c .before .clear-words .ensures))
-
-slice-into-requires : tie.Need-slice-into-requires
-slice-into-requires c κs = (begun-small _ _ (sym (c .before .before .before .before .before .before .before .before .before .kind .given .1) ∙ c .before .before .before .before .before .before .before .before .before .before .before .begin .ensures) refl, from-few _ (sym (c .before .before .before .before .before .before .before .before .before .before .before .begin .ensures) ∙ c .before .before .before .before .before .before .before .before .before .kind .given .1))
-
-prefix-into-requires : tie.Need-prefix-into-requires
-prefix-into-requires c κs = begun-small _ _ (sym (c .before .before .before .before .before .before .before .before .before .kind2 .given .1) ∙ c .before .before .before .before .before .before .before .before .before .before .before .begin .ensures) refl
 
 returns-2 : tie.Need-returns-2
 returns-2 c =
@@ -37,23 +30,9 @@ returns-3 c =
 
 returns-4 : tie.Need-returns-4
 returns-4 c =
-    let a = c .before .before .before .before .before .before .before .before .before .before .before .before .before .before .before .before .before .before .before .args in
-    rw (front-as-body (tableOf (a .sequences .now) (a .pictures .now)) (a .unit .now) (a .scratch .now) (a .head) (ap isFronted (sym (c .before .before .before .before .before .before .before .before .before .before .before .before .before .before .begin .ensures) ∙ c .before .before .before .before .before .before .before .before .before .before .before .before .enum-told .given .1))) (c .before .before .read-body-into .ensures)
-
-returns-5 : tie.Need-returns-5
-returns-5 c =
-    let a = c .before .before .before .before .before .before .before .before .before .before .before .before .before .before .before .before .before .before .before .args in
-    rw (front-as-body (tableOf (a .sequences .now) (a .pictures .now)) (a .unit .now) (a .scratch .now) (a .head) (ap isFronted (sym (c .before .before .before .before .before .before .before .before .before .before .before .before .before .before .begin .ensures) ∙ c .before .before .before .before .before .before .before .before .before .before .before .before .enum-told2 .given .1))) (c .before .before .read-body-into2 .ensures)
-
-returns-6 : tie.Need-returns-6
-returns-6 c =
-    let a = c .before .before .before .before .before .before .before .before .before .before .before .before .before .before .before .before .before .before .before .args in
-    rw (front-as-body (tableOf (a .sequences .now) (a .pictures .now)) (a .unit .now) (a .scratch .now) (a .head) (ap isFronted (sym (c .before .before .before .before .before .before .before .before .before .before .before .before .before .before .begin .ensures) ∙ c .before .before .before .before .before .before .before .before .before .before .before .before .enum-told3 .given .1))) (c .before .before .read-body-into3 .ensures)
-
-returns-7 : tie.Need-returns-7
-returns-7 c =
-    let a = c .before .before .before .before .before .before .before .before .before .before .before .before .before .before .before .before .before .before .before .args in
-    rw (front-as-body (tableOf (a .sequences .now) (a .pictures .now)) (a .unit .now) (a .scratch .now) (a .head) (ap isFronted (sym (c .before .before .before .before .before .before .before .before .before .before .before .before .before .before .begin .ensures) ∙ c .before .before .before .before .before .before .before .before .before .before .before .before .enum-told4 .given .1))) (c .before .before .read-body-into4 .ensures)
+    let a = c .before .before .before .before .before .before .before .before .before .before .before .before .before .before .before .before .before .before .args in
+    let e = ap isFronted (sym (c .before .before .before .before .before .before .before .before .before .before .before .before .before .begin .ensures)) ∙ other (c .before .before .before .before .before .before .before .before .before .before .before .before .before .begin .result) (c .before .before .before .before .before .before .before .before .before .before .before .before .match .keys3) in
+    rw (front-as-body (tableOf (a .sequences .now) (a .pictures .now)) (a .unit .now) (a .scratch .now) (a .head) e) (c .before .before .read-body-into .ensures)
 
 pub read-front-into-spec : {M : Type 1} → statement M
 read-front-into-spec =
@@ -65,24 +44,11 @@ read-front-into-spec =
     returns
     (λ c κs. search needs)
     (λ c. search needs)
-    slice-into-requires
-    (λ c. search needs)
-    prefix-into-requires
-    (λ c. search needs)
     (λ c κs. search needs)
     (λ c. search needs)
     (λ c κs. search needs)
-    (λ c. search needs)
-    (λ c κs. search needs)
-    (λ c. search needs)
     (λ c κs. search needs)
     returns-2
     returns-3
     (λ c. search needs)
-    returns-4
-    (λ c. search needs)
-    returns-5
-    (λ c. search needs)
-    returns-6
-    (λ c. search needs)
-    returns-7)
+    returns-4)

@@ -5,7 +5,7 @@ use lib.ListN.{drop}
 use lib.Pow.{pow-pos}
 use Rattle.bits.specs.Bits.{bytesBits}
 use Rattle.syntax.specs.SliceHeader.{anySet}
-use Rattle.header.proofs.AnySet.{low-bits, after-end, after-here, after-later}
+use Rattle.cut.proofs.AnySet.{low-bits, after-end, after-here, after-later}
 use borrow.Author.Needs.{needs}
 use Rattle.header.proofs.follows.any_after.Statement.{statement}
 use Rattle.header.proofs.follows.any_after.Tie as tie

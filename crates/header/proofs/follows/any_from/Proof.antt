@@ -5,7 +5,7 @@ use native.Mathlib.Numerals.{add-one}
 use lib.ListN.{length, drop}
 use Rattle.bits.specs.Bits.{bytesBits}
 use Rattle.syntax.specs.SliceHeader.{anySet}
-use Rattle.header.proofs.AnySet.{any-here, any-later, any-none}
+use Rattle.cut.proofs.AnySet.{any-here, any-later, any-none}
 use borrow.Author.Needs.{needs}
 use Rattle.header.proofs.follows.any_from.Statement.{statement}
 use Rattle.header.proofs.follows.any_from.Tie as tie

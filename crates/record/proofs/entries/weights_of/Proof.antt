@@ -2,7 +2,7 @@ use borrow.Author.Needs.{needs}
 use Prim.Native.Nat.{_≤_, _-_}
 use mathlib.Core.Path.{_≡_}
 use native.Mathlib.Omega.{arith}
-use Rattle.weights.proofs.Filled.{at-most-32}
+use Rattle.weights.proofs.AtMost.{at-most-32}
 use Rattle.record.proofs.Taken.{Held, none-held, one-held, all-held}
 use Rattle.record.proofs.entries.weights_of.Statement.{statement}
 use Rattle.record.proofs.entries.weights_of.Tie as tie

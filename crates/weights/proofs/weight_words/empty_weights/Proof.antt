@@ -2,7 +2,7 @@ use Prim.Native.Nat.{_-_}
 use native.Mathlib.Omega.{arith}
 use lib.IntN.{pos}
 use borrow.Author.Needs.{needs}
-use Rattle.weights.proofs.Filled.{at-most-32}
+use Rattle.weights.proofs.AtMost.{at-most-32}
 use Rattle.weights.specs.WeightsLent.{emptiedWeights}
 use Rattle.lists.proofs.Emptied.{Emptying, emptying-none, emptying-in, emptying-more, emptied}
 use Rattle.weights.proofs.weight_words.empty_weights.Statement.{statement}

@@ -4,7 +4,7 @@ use Rattle.bits.specs.Refusals.{got, no}
 use Rattle.bits.specs.Bits.{bitsOf}
 use Rattle.syntax.specs.SliceHeader.{weight}
 use Rattle.weights.specs.Steps.{asWeight}
-use Rattle.weights.proofs.Filled.{at-most-32}
+use Rattle.weights.proofs.AtMost.{at-most-32}
 use Rattle.weights.proofs.Stored.{Stored, stored-none, stored-refused, stored-all, stored-more}
 use borrow.Author.Needs.{needs}
 use Rattle.weights.proofs.weight_words.list_into.Statement.{statement}
@@ -29,7 +29,7 @@ returns c =
     let l = g .before .before in
     let a = l .before .before .before .args in
     let u : weight (a .chroma) .read (bitsOf (a .s .now)) (l .loop .at .at) ≡ no (c .why-weight .result) = sym (g .weight .ensures) ∙ rw (c .why-weight .ensures, t .enum-told .given .1) in
-    rw (← l .before .at-most-32 .ensures) (stored-refused _ _ _ _ _ (l .loop .inv) (search needs) _ u)
+    rw (← l .before .at-most-32 .ensures) (stored-refused _ _ _ _ _ (l .loop .inv) (search needs) u)
 
 loop-again : tie.Need-loop-again Inv-loop μ-loop
 loop-again c =

@@ -3,7 +3,7 @@ use Rattle.syntax.specs.SliceHeader.{parts}
 use Rattle.syntax.proofs.Goods.{counts-few}
 use Rattle.record.specs.Fields.{frameFrom, activeCountsFrom}
 use Rattle.record.specs.Record.{headerFrom}
-use Rattle.writer.proofs.Stages.{on-good, on}
+use Rattle.writer.proofs.Stages.{on-good, on, active-few}
 use borrow.Author.Needs.{needs}
 use Rattle.writer.proofs.whole.put_header.Statement.{statement}
 use Rattle.writer.proofs.whole.put_header.Tie as tie
@@ -22,7 +22,16 @@ returns c =
     (on _ _ _ _ (rw (c .before .before .before .before .before .before .before .before .before .before .before .before .before .before .before .before .before .before .before .before .frame-of .ensures) at (c .before .before .before .before .before .before .before .before .before .before .before .before .before .before .before .before .before .before .before .put-frame .ensures))
     (on _ _ _ _ (rw (c .before .before .before .before .before .before .before .before .before .before .before .before .before .before .before .before .order-count-of .ensures) at (c .before .before .before .before .before .before .before .before .before .before .before .before .before .put-order-count .ensures))
     (on-good _ _ _ _ (rw (c .before .before .before .before .before .before .before .before .before .before .active-counts-of .ensures) at (c .before .before .before .before .before .before .before .before .put-active-counts .ensures)) (c .before .before .put-middle .ensures)
-    (λ t. let g = counts-few _ _ t in rw ((rw (c .before .before .before .before .before .before .before .before .before .before .active-counts-of .ensures) at (c .before .before .before .before .before .active .ensures)) (g .l0) (few .0), (rw (c .before .before .before .before .before .before .before .before .before .before .active-counts-of .ensures) at (c .before .before .before .before .active2 .ensures)) (g .l1) (few .1)) at (c .before .before .put-middle .ensures))))))
+    (λ t.
+    let g = counts-few _ _ t in
+    let l0 = rw (c .before .before .before .before .before .before .before .before .before .before .active-counts-of .ensures) at (c .before .before .before .before .before .active .ensures) in
+    let l1 = rw (c .before .before .before .before .before .before .before .before .before .before .active-counts-of .ensures) at (c .before .before .before .before .active2 .ensures) in
+    let a = c .before .before .before .before .before .before .before .before .before .before .before .before .before .before .before .before .before .before .before .before .before .before .before .before .before .before .before .before .before .before .args in
+    let m = activeCountsFrom (a .numbers .now) in
+    let p = a .x .picture in
+    let e0 = active-few (m .«num_ref_idx_l0_active_minus1») (p .«num_ref_idx_l0_default_active_minus1») l0 (g .l0) (few .0) in
+    let e1 = active-few (m .«num_ref_idx_l1_active_minus1») (p .«num_ref_idx_l1_default_active_minus1») l1 (g .l1) (few .1) in
+    rw (e0, e1) at (c .before .before .put-middle .ensures))))))
 
 pub put-header-spec : {M : Type 1} → statement M
 put-header-spec =

@@ -1,0 +1,5 @@
+pub mod AnySet
+pub mod Seams
+pub mod Firsts
+pub mod Bytes
+pub mod Fronts

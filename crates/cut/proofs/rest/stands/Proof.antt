@@ -1,0 +1,14 @@
+use borrow.Author.Needs.{needs}
+use Rattle.cut.proofs.rest.stands.Statement.{statement}
+use Rattle.cut.proofs.rest.stands.Tie as tie
+
+returns : tie.Need-returns
+returns c = rw (c .both2 .ensures, c .before .both .ensures)
+
+pub stands-spec : {M : Type 1} → statement M
+stands-spec =
+    tie.close
+    (tie.spec
+    (λ c κs. search needs)
+    (λ c κs. search needs)
+    returns)
