@@ -2,23 +2,25 @@
 use mathlib.Core.Path.{_≡_, refl, sym, subst, _∙_}
 use mathlib.Core.List.{List, [], _∷_}
 use mathlib.Core.Bool.{Bool, true, false}
-use Prim.Native.Nat.{ℕ, zero, suc, _+_, _-_, _*_, _^_, _≤_, _<_}
+use Prim.Native.Nat.{ℕ, zero, suc, _+_, _-_, _*_, _/_, _^_, _≤_, _<_}
 use native.Mathlib.Omega.{arith}
 use native.Mathlib.Decide.{decLt}
+use native.Mathlib.Numerals.{add-one}
 use native.Mathlib.Nat.{zero-add, add-zero, add-suc, suc-add, suc-mul}
 use borrow.Author.Tests.{le-leb, lt-leb, leb-true}
+use lib.Count.{leadingZeros}
 use lib.Dec.{leb}
 use lib.IntN.{pos}
 use lib.ListN.{length, take, drop}
 use lib.Pow.{pow-pos}
 use lib.Seq.{length-take-le}
 use Rattle.bits.specs.Refusals.{Res, got, no, pick, refusalAt, ranOut, tooManyZeros}
-use Rattle.bits.specs.Bits.{Bits, numberOf, bytesBits}
+use Rattle.bits.specs.Bits.{Bits, numberOf, bytesBits, reach, bitsOf}
 use Rattle.bits.specs.Codes.{fixedAt, suffixAt, codeAt, ueAt}
-use Rattle.bits.specs.Windows.{bitAt, bitsAt, zerosAt}
+use Rattle.bits.specs.Windows.{bitAt, bitsAt}
 use Rattle.bits.proofs.Digits.{number-lt}
-use Rattle.bits.proofs.Windows.{bit-past, bits-first, zeros-stop, zeros-all, codeValue, value-lt}
-use Rattle.bits.proofs.Slices.{length-bytes}
+use Rattle.bits.proofs.Windows.{bit-lt, bit-past, bits-first, bits-take, leading-set, leading-lt, code-bits, code-range, value-lt}
+use Rattle.bits.proofs.Slices.{length-bytes, take-reached}
 use Rattle.bits.proofs.Bridge.{left-cons, left-nil, left-length, field-bits}
 
 -- ---- u(n)
@@ -101,31 +103,72 @@ pub ue-past : (s : List ℕ) (p : ℕ) → 8 * length s < p → ueAt (bytesBits 
 unfolding ueAt codeAt
 ue-past s p h = rw (left-nil s p (omega arith))
 
-module _ (s : List ℕ) (p z : ℕ) (e : zerosAt s p 32 ≡ z) where
-  -- the zeros and the set bit after them
-  counted : z < 32 → (bitsAt s p z ≡ 0) × (bitAt s (p + z) ≡ 1)
-  counted h = rw e at (zeros-stop s p 32 (rw e h))
+-- z zeros and a one, which are 1 as a number
+module _ (s : List ℕ) (p z : ℕ) (e : bitsAt s p (z + 1) ≡ 1) (h : z < 32) where
+  counted : (bitsAt s p z ≡ 0) × (bitAt s (p + z) ≡ 1)
+  unfolding bitsAt
+  counted =
+      let f : bitsAt s p z * 2 + bitAt s (p + z) ≡ 1 = rw add-one at e in
+      (omega (arith, f, bit-lt s (p + z)), omega (arith, f, bit-lt s (p + z)))
 
   -- what follows them
-  ue-suffix : z < 32 → ueAt (bytesBits s) p ≡ suffixAt z (drop (p + (z + 1)) (bytesBits s)) p
+  ue-suffix : ueAt (bytesBits s) p ≡ suffixAt z (drop (p + (z + 1)) (bytesBits s)) p
   unfolding ueAt
-  ue-suffix h =
+  ue-suffix =
       let r : suc (p + z) ≡ p + (z + 1) = omega arith in
-      rw (zero-add z, r) at (code-run s p z 32 0 p (counted h .0) (counted h .1) h)
+      rw (zero-add z, r) at (code-run s p z 32 0 p (counted .0) (counted .1) h)
 
-  pub ue-in : z < 32 → p + (2 * z + 1) ≤ 8 * length s → ueAt (bytesBits s) p ≡ got (codeValue s p z) (p + (2 * z + 1))
-  ue-in h g = ue-suffix h ∙ suffix-in s p z (p + (z + 1)) (omega arith)
+  pub ue-in : p + (2 * z + 1) ≤ 8 * length s → ueAt (bytesBits s) p ≡ got (bitsAt s p (2 * z + 1) - 1) (p + (2 * z + 1))
+  ue-in g =
+      let v : 2 ^ z - 1 + bitsAt s (p + (z + 1)) z ≡ bitsAt s p (2 * z + 1) - 1 = omega (arith, code-bits s p z e, pow-pos z) in
+      rw (← v) (ue-suffix ∙ suffix-in s p z (p + (z + 1)) (omega arith))
 
-  pub ue-short : z < 32 → 8 * length s < p + (2 * z + 1) → ueAt (bytesBits s) p ≡ no (refusalAt ranOut (pos 0) p)
-  ue-short h g = ue-suffix h ∙ suffix-out s p z (p + (z + 1)) (omega (arith, inside s (p + z) (counted h .1))) (omega arith)
+  pub ue-short : 8 * length s < p + (2 * z + 1) → ueAt (bytesBits s) p ≡ no (refusalAt ranOut (pos 0) p)
+  ue-short g = ue-suffix ∙ suffix-out s p z (p + (z + 1)) (omega (arith, inside s (p + z) (counted .1))) (omega arith)
 
-  pub ue-zeros : 32 ≤ z → p + 32 ≤ 8 * length s → ueAt (bytesBits s) p ≡ no (refusalAt tooManyZeros (pos 0) p)
+module _ (s : List ℕ) (p : ℕ) (e : bitsAt s p 32 ≡ 0) where
+  pub ue-zeros : p + 32 ≤ 8 * length s → ueAt (bytesBits s) p ≡ no (refusalAt tooManyZeros (pos 0) p)
   unfolding ueAt
-  ue-zeros h g = code-zeros s p 32 0 p (zeros-all s p 32 (rw e h)) g
+  ue-zeros g = code-zeros s p 32 0 p e g
 
-  pub ue-end : 32 ≤ z → p ≤ 8 * length s → 8 * length s < p + 32 → ueAt (bytesBits s) p ≡ no (refusalAt ranOut (pos 0) p)
+  pub ue-end : p ≤ 8 * length s → 8 * length s < p + 32 → ueAt (bytesBits s) p ≡ no (refusalAt ranOut (pos 0) p)
   unfolding ueAt
-  ue-end h k g = code-end s p 32 0 p (zeros-all s p 32 (rw e h)) k g
+  ue-end h g = code-end s p 32 0 p e h g
+
+-- ---- by a window of 32 bits whose first 25 are those at the place, in the first r bytes, which are the bytes whose bits have a place
+
+-- one of at least 2 ^ 19 has at most 12 zeros in front
+pub few : (w : ℕ) → 2 ^ 19 ≤ w → w < 2 ^ 32 → leadingZeros 32 w < 13
+few w l k = omega (arith, leading-lt 32 19 w k l)
+
+module _ (s : List ℕ) (p w r : ℕ) (f : (r ≤ length s) × (r ≤ reach) × (r < reach → r ≡ length s)) (g : p / 8 + 3 < r)
+    (h : (n : ℕ) → n ≤ 25 → w / 2 ^ (32 - n) ≡ bitsAt s p n) where
+  cut : bitsOf s ≡ bytesBits (take r s)
+  unfolding bitsOf
+  cut = rw (take-reached s r (f .1) (f .2))
+
+  there : (n : ℕ) → n ≤ 25 → p + n ≤ 8 * length (take r s)
+  there n l = rw (length-take-le r s (f .0)) (omega arith)
+
+  same : (n : ℕ) → n ≤ 25 → w / 2 ^ (32 - n) ≡ bitsAt (take r s) p n
+  same n l = h n l ∙ sym (bits-take s r p n (omega arith))
+
+  pub fixed-near : (n : ℕ) → n ≤ 25 → fixedAt n (bitsOf s) p ≡ got (w / 2 ^ (32 - n)) (p + n)
+  fixed-near n l = rw (cut, same n l) (fixed-in (take r s) p n (there n l))
+
+  set : 2 ^ 19 ≤ w → w < 2 ^ 32 → bitsAt (take r s) p (leadingZeros 32 w + 1) ≡ 1
+  set l k = sym (same (leadingZeros 32 w + 1) (omega (arith, few w l k))) ∙ leading-set 32 w k (omega (arith, few w l k))
+
+  code : 2 ^ 19 ≤ w → w < 2 ^ 32 → w / 2 ^ (32 - (2 * leadingZeros 32 w + 1)) ≡ bitsAt (take r s) p (2 * leadingZeros 32 w + 1)
+  code l k = same (2 * leadingZeros 32 w + 1) (omega (arith, few w l k))
+
+  pub code-pos : 2 ^ 19 ≤ w → w < 2 ^ 32 → 0 < w / 2 ^ (32 - (2 * leadingZeros 32 w + 1))
+  code-pos l k = rw (code l k) (code-range (take r s) p (leadingZeros 32 w) (set l k) (omega (arith, few w l k)) .0)
+
+  pub ue-near : 2 ^ 19 ≤ w → w < 2 ^ 32 → ueAt (bitsOf s) p ≡ got (w / 2 ^ (32 - (2 * leadingZeros 32 w + 1)) - 1) (p + (2 * leadingZeros 32 w + 1))
+  ue-near l k =
+      rw (cut, code l k)
+      (ue-in (take r s) p (leadingZeros 32 w) (set l k) (omega (arith, few w l k)) (there (2 * leadingZeros 32 w + 1) (omega (arith, few w l k))))
 
 -- ---- how large a value is, whatever the bits
 

@@ -1,16 +1,18 @@
--- Laws of the bits of bytes as numbers: runs of bits side by side, the 64 bits that a word holds, zeros counted, and what a code is worth.
+-- Laws of the bits of bytes as numbers: runs of bits side by side, the bits that a word holds, zeros counted, and what a code is worth.
 use mathlib.Core.Path.{_≡_, refl, sym, ap, _∙_}
 use mathlib.Core.List.{List}
 use Prim.Native.Nat.{ℕ, zero, suc, _+_, _-_, _*_, _/_, _%_, _^_, _≤_, _<_}
 use native.Mathlib.Nat.{add-zero, add-suc, add-assoc, add-comm, mul-assoc, mod-lt, pow-suc, add-mul, zero-add, suc-add, zero-div, lt-of-lt-of-le}
 use native.Mathlib.Omega.{arith}
+use native.Mathlib.Decide.{decLt}
 use native.Mathlib.Numerals.{add-one, one-add}
-use lib.ListN.{length, getD, List·getD-eq-default}
+use lib.ListN.{length, getD, take, List·getD-eq-default}
+use lib.Seq.{getD-take}
 use lib.Bits.{bitOr, or-shifted}
 use lib.Pow.{shl-exact, pow-add, pow-mono, pow-pos, high, low, shl-lt, shl-shr, shr-shr}
 use lib.Dec.{lit<}
-use lib.Count.{leadingZeros, leading-unique}
-use Rattle.bits.specs.Windows.{bitAt, bitsAt, zerosAt, past}
+use lib.Count.{leadingZeros, leading-of-zero, leading-top}
+use Rattle.bits.specs.Windows.{bitAt, bitsAt}
 
 pub bit-lt : (s : List ℕ) (i : ℕ) → bitAt s i < 2
 unfolding bitAt
@@ -69,14 +71,14 @@ bits-byte s k h = byte-front s k h 8 0 refl ∙ omega arith
 pub joined : (s : List ℕ) (p q m n w a b : ℕ) → q ≡ p + m → w ≡ m + n → a ≡ bitsAt s p m → b ≡ bitsAt s q n → a * 2 ^ n + b ≡ bitsAt s p w
 joined s p q m n w a b e d f g = rw (f, g, e, d) (sym (bits-split s p m n))
 
--- the n bits after the first m, put under them by `|`: both stand k places above the lowest of 64
-pub or-first : (s : List ℕ) (p m k b : ℕ) → m + k ≡ 64 → b ≡ bitsAt s p m → (b * 2 ^ k) % 2 ^ 64 ≡ bitsAt s p m * 2 ^ k
+-- the n bits after the first m, put under them by `|`: both stand k places above the lowest, within 64
+pub or-first : (s : List ℕ) (p m k b : ℕ) → m + k ≤ 64 → b ≡ bitsAt s p m → (b * 2 ^ k) % 2 ^ 64 ≡ bitsAt s p m * 2 ^ k
 or-first s p m k b e g = rw g (shl-exact m k 64 (bits-lt s p m) (omega arith))
 
 pub or-last : (s : List ℕ) (p q m n a b : ℕ) → q ≡ p + m → a ≡ bitsAt s p m * 2 ^ n → b ≡ bitsAt s q n → bitOr a b ≡ bitsAt s p (m + n)
 or-last s p q m n a b f g h = rw (g, h, f) (or-shifted (bitsAt s p m) n (bitsAt s (p + m) n) (bits-lt s (p + m) n) ∙ sym (bits-split s p m n))
 
-pub or-next : (s : List ℕ) (p q m n k j a b : ℕ) → m + j ≡ 64 → n + k ≡ j → q ≡ p + m → a ≡ bitsAt s p m * 2 ^ j → b ≡ bitsAt s q n
+pub or-next : (s : List ℕ) (p q m n k j a b : ℕ) → m + j ≤ 64 → n + k ≡ j → q ≡ p + m → a ≡ bitsAt s p m * 2 ^ j → b ≡ bitsAt s q n
     → bitOr a ((b * 2 ^ k) % 2 ^ 64) ≡ bitsAt s p (m + n) * 2 ^ k
 or-next s p q m n k j a b e d f g h =
     let B : ℕ = bitsAt s (p + m) n in
@@ -119,79 +121,71 @@ bits-one s p = rw (add-zero p) (omega arith)
 pub bits-first : (s : List ℕ) (p n : ℕ) → bitsAt s p (suc n) ≡ bitAt s p * 2 ^ n + bitsAt s (suc p) n
 bits-first s p n = ap (λ (x : ℕ). bitsAt s p x) (sym (one-add n)) ∙ bits-split s p 1 n ∙ rw (bits-one, add-one)
 
--- the number of the first n bits determines how many zeros stand first
-Facts : List ℕ → ℕ → ℕ → ℕ → Type 0
-Facts s p n z = (m : ℕ) × (z + m ≡ n) × (bitsAt s p n < 2 ^ m) × (2 ^ m ≤ 2 * bitsAt s p n + 1)
+-- bytes cut off later change none
+pub bits-take : (s : List ℕ) (m p n : ℕ) → p + n ≤ 8 * m → bitsAt (take m s) p n ≡ bitsAt s p n
+unfolding bitsAt bitAt
+bits-take s m p zero h = refl
+bits-take s m p (suc n) h = rw (bits-take s m p n (omega arith), getD-take m s ((p + n) / 8) 0 (omega arith))
 
-facts-step : (s : List ℕ) (p n z b : ℕ) → bitAt s p ≡ b → Facts s (suc p) n z → Facts s p (suc n) (past b z)
-unfolding Facts
-facts-step s p n z zero e f =
-    let g : bitsAt s p (suc n) ≡ bitsAt s (suc p) n = bits-first s p n ∙ rw e (omega arith) in
-    (f .0, omega (arith, f .1), rw g (f .2), rw g (f .3))
-facts-step s p n z (suc b) e f =
-    let e1 : bitAt s p ≡ 1 = omega (arith, bit-lt s p) in
-    let g : bitsAt s p (suc n) ≡ 1 * 2 ^ n + bitsAt s (suc p) n = rw e1 at (bits-first s p n) in
-    (suc n, zero-add (suc n), bits-lt s p (suc n), rw pow-suc (omega (arith, g)))
+-- a number's highest set digit stands after its leading zeros
+pub leading-set : (k a : ℕ) → a < 2 ^ k → leadingZeros k a < k → a / 2 ^ (k - (leadingZeros k a + 1)) ≡ 1
+leading-set k zero g h = absurd (omega (arith, leading-of-zero k))
+leading-set k (suc a) g h =
+    let t = leading-top k (suc a) (omega arith) g in
+    let e : k - (leadingZeros k (suc a) + 1) ≡ t .0 = omega (arith, t .1) in
+    let up : 1 * 2 ^ t .0 + (suc a - 2 ^ t .0) ≡ suc a = omega (arith, t .2) in
+    let lt : suc a - 2 ^ t .0 < 2 ^ t .0 = omega (arith, t .2, t .3, pow-suc 2 (t .0)) in
+    rw e (rw up at (high 1 (t .0) lt))
 
-zeros-facts : (s : List ℕ) (p n : ℕ) → Facts s p n (zerosAt s p n)
-unfolding zerosAt Facts
-zeros-facts s p zero = (0, refl, bits-lt s p 0, omega (arith, bits-lt s p 0))
-zeros-facts s p (suc n) = facts-step s p n (zerosAt s (suc p) n) (bitAt s p) refl (zeros-facts s (suc p) n)
+pub leading-none : (k a : ℕ) → a < 2 ^ k → k ≤ leadingZeros k a → a ≡ 0
+leading-none k zero g h = refl
+leading-none k (suc a) g h = absurd (omega (arith, leading-top k (suc a) (omega arith) g .1))
 
--- the count of zeros is the machine's count on the number of the bits
-pub zeros-leading : (s : List ℕ) (p n : ℕ) → zerosAt s p n ≡ leadingZeros n (bitsAt s p n)
-unfolding Facts
-zeros-leading s p n = let f = zeros-facts s p n in leading-unique n (bitsAt s p n) (zerosAt s p n) (f .0) (f .1) (f .2) (f .3)
-
-pub zeros-all : (s : List ℕ) (p n : ℕ) → n ≤ zerosAt s p n → bitsAt s p n ≡ 0
-unfolding Facts
-zeros-all s p n h =
-    let f = zeros-facts s p n in
-    let m : f .0 ≡ 0 = omega (arith, f .1) in
-    omega (arith, rw m at (f .2))
-
-Stop : List ℕ → ℕ → ℕ → Type 0
-Stop s p z = (bitsAt s p z ≡ 0) × (bitAt s (p + z) ≡ 1)
-
-stop-step : (s : List ℕ) (p n z b : ℕ) → bitAt s p ≡ b → past b z < suc n → (z < n → Stop s (suc p) z) → Stop s p (past b z)
-unfolding Stop bitsAt
-stop-step s p n z zero e h f =
-    let g = f (omega arith) in
-    (bits-first s p z ∙ rw (e, g .0) (omega arith), rw (add-suc, ← suc-add) (g .1))
-stop-step s p n z (suc b) e h f = (refl, rw (add-zero p) (omega (arith, bit-lt s p)))
-
-zeros-stop′ : (s : List ℕ) (p n : ℕ) → zerosAt s p n < n → Stop s p (zerosAt s p n)
-unfolding zerosAt
-zeros-stop′ s p zero h = absurd (omega arith)
-zeros-stop′ s p (suc n) h = stop-step s p n (zerosAt s (suc p) n) (bitAt s p) refl h (zeros-stop′ s (suc p) n)
-
-pub zeros-stop : (s : List ℕ) (p n : ℕ) → zerosAt s p n < n → (bitsAt s p (zerosAt s p n) ≡ 0) × (bitAt s (p + zerosAt s p n) ≡ 1)
-unfolding Stop
-zeros-stop s p n h = zeros-stop′ s p n h
-
--- the n bits at a place, out of the 64 from its byte on shifted up to it
-pub long-law : (s : List ℕ) (at n : ℕ) → n ≤ 57 → (bitsAt s (8 * (at / 8)) 64 * 2 ^ (at % 8)) % 2 ^ 64 / 2 ^ (64 - n) ≡ bitsAt s at n
-long-law s at n h =
-    let w : at % 8 + (n + (64 - n - at % 8)) ≡ 64 = omega arith in
-    let d : at % 8 + (64 - n - at % 8) ≡ 64 - n = omega arith in
-    let p : 8 * (at / 8) + at % 8 ≡ at = omega arith in
-    rw (w, d, p) at (bits-shift s (8 * (at / 8)) (at % 8) n (64 - n - at % 8))
+-- and there are few of them in a large number
+pub leading-lt : (k j a : ℕ) → a < 2 ^ k → 2 ^ j ≤ a → leadingZeros k a + j < k
+leading-lt k j zero g h = absurd (omega (arith, pow-pos j))
+leading-lt k j (suc a) g h =
+    let t = leading-top k (suc a) (omega arith) g in
+    go t (decLt j (suc (t .0)))
+  where
+    go : (t : (m : ℕ) × (leadingZeros k (suc a) + suc m ≡ k) × (2 ^ m ≤ suc a) × (suc a < 2 ^ suc m)) → Dec (j < suc (t .0)) → leadingZeros k (suc a) + j < k
+    go t (yes l) = omega (arith, t .1)
+    go t (no l) = absurd (omega (arith, t .3, pow-mono {i = suc (t .0)} {j = j} (omega arith)))
 
 -- the first bits of a longer run, where the widths are given
 pub front : (s : List ℕ) (p m n w : ℕ) → m + n ≡ w → bitsAt s p w / 2 ^ n ≡ bitsAt s p m
 front s p m n w e = rw (← e) (bits-front s p m n)
 
--- a ue(v) code is its value plus 1 in 2z + 1 bits; from its set bit on, in z + 1 bits
-pub code-tail : (s : List ℕ) (p z : ℕ) → zerosAt s p 32 ≡ z → z < 32 → bitsAt s (p + z) (z + 1) ≡ 2 ^ z + bitsAt s (p + (z + 1)) z
-code-tail s p z e h =
-    let st : bitAt s (p + z) ≡ 1 = rw e at (zeros-stop s p 32 (rw e h) .1) in
-    rw (add-one, add-suc) (bits-first s (p + z) z ∙ rw st (omega arith))
+-- the n bits at a place, out of the w from its byte on shifted up to it
+pub short-law : (w : ℕ) (s : List ℕ) (at n : ℕ) → n + 7 ≤ w → (bitsAt s (8 * (at / 8)) w * 2 ^ (at % 8)) % 2 ^ w / 2 ^ (w - n) ≡ bitsAt s at n
+short-law w s at n h =
+    let e : at % 8 + (n + (w - n - at % 8)) ≡ w = omega arith in
+    let d : at % 8 + (w - n - at % 8) ≡ w - n = omega arith in
+    let p : 8 * (at / 8) + at % 8 ≡ at = omega arith in
+    rw (e, d, p) at (bits-shift s (8 * (at / 8)) (at % 8) n (w - n - at % 8))
 
-pub code-whole : (s : List ℕ) (p z : ℕ) → zerosAt s p 32 ≡ z → z < 32 → bitsAt s p (2 * z + 1) ≡ bitsAt s (p + z) (z + 1)
-code-whole s p z e h =
-    let st : bitsAt s p z ≡ 0 = rw e at (zeros-stop s p 32 (rw e h) .0) in
-    let w : 2 * z + 1 ≡ z + (z + 1) = omega arith in
-    rw w (bits-split s p z (z + 1) ∙ rw st (omega arith))
+-- all w of them, with the first bits of the byte after those
+pub long-law : (w : ℕ) (s : List ℕ) (at q a b : ℕ) → 8 ≤ w → q ≡ 8 * (at / 8) + w → a ≡ bitsAt s (8 * (at / 8)) w → b ≡ bitsAt s q 8
+    → bitOr ((a * 2 ^ (at % 8)) % 2 ^ w) (b / 2 ^ (8 - at % 8)) ≡ bitsAt s at w
+long-law w s at q a b h e f g =
+    let r : ℕ = at % 8 in
+    let d : r + (w - r) ≡ w = omega arith in
+    let c : w - r + r ≡ w = omega arith in
+    let p : 8 * (at / 8) + r ≡ at = omega arith in
+    let up : (bitsAt s (8 * (at / 8)) w * 2 ^ r) % 2 ^ w ≡ bitsAt s at (w - r) * 2 ^ r = rw (d, p) at (shift-up s (8 * (at / 8)) r (w - r)) in
+    rw (f, g) (rw c at (or-last s at q (w - r) r _ _ (omega arith) up (front s q r (8 - r) 8 (omega arith))))
+
+-- the leading zeros of the number of n bits, and the set bit after them, are 1 as a number
+pub bits-set : (s : List ℕ) (p n x : ℕ) → x ≡ bitsAt s p n → leadingZeros n x < n → bitsAt s p (leadingZeros n x + 1) ≡ 1
+bits-set s p n x e h =
+    let d : ℕ = n - (leadingZeros n x + 1) in
+    sym (front s p (leadingZeros n x + 1) d n (omega arith)) ∙ ap (λ (y : ℕ). y / 2 ^ d) (sym e) ∙ leading-set n x (under s p n x e) h
+
+-- a ue(v) code is its value plus 1 in 2z + 1 bits: z zeros and a one, which are 1 as a number, and z bits
+pub code-bits : (s : List ℕ) (p z : ℕ) → bitsAt s p (z + 1) ≡ 1 → bitsAt s p (2 * z + 1) ≡ 2 ^ z + bitsAt s (p + (z + 1)) z
+code-bits s p z e =
+    let w : 2 * z + 1 ≡ z + 1 + z = omega arith in
+    rw w (bits-split s p (z + 1) z ∙ rw e (omega arith))
 
 -- a code with z zeros in front, whose other digits stand for b, is worth at most 2 ^ 32 - 2
 pub value-lt : (z b : ℕ) → z < 32 → b < 2 ^ z → 2 ^ z - 1 + b < 2 ^ 32 - 1
@@ -199,8 +193,7 @@ value-lt z b h g =
     let m : 2 ^ suc z ≤ 2 ^ 32 = pow-mono h in
     omega (arith, rw pow-suc at m, pow-pos z)
 
-abbrev pub codeValue : List ℕ → ℕ → ℕ → ℕ
-codeValue s p z = 2 ^ z - 1 + bitsAt s (p + (z + 1)) z
-
-pub code-lt : (s : List ℕ) (p z : ℕ) → z < 32 → codeValue s p z < 2 ^ 32 - 1
-code-lt s p z h = value-lt z _ h (bits-lt s (p + (z + 1)) z)
+pub code-range : (s : List ℕ) (p z : ℕ) → bitsAt s p (z + 1) ≡ 1 → z < 32 → (0 < bitsAt s p (2 * z + 1)) × (bitsAt s p (2 * z + 1) < 2 ^ 32)
+code-range s p z e h =
+    let b = code-bits s p z e in
+    (omega (arith, b, pow-pos z), omega (arith, b, pow-pos z, value-lt z _ h (bits-lt s (p + (z + 1)) z)))

@@ -5,6 +5,8 @@ use crate::refusals::TOO_MANY_ZEROS;
 use crate::refusals::no_refusal;
 use crate::refusals::refuse_at;
 use crate::window::long_window;
+use crate::window::reached;
+use crate::window::short_window;
 use crate::window::within;
 ghost use mathlib.Core.Path.{_≡_};
 ghost use Prim.Native.Nat.{ℕ, _+_, _-_, _*_, _/_, _^_, _≤_, _<_};
@@ -12,7 +14,8 @@ ghost use lib.ListN.{length};
 ghost use Rattle.bits.specs.Bits.{reach, bitsOf, bytesBits};
 ghost use Rattle.bits.specs.Codes.{widthOf, fixedAt, uAt, flagAt, ueAt, seAt, seOf};
 ghost use Rattle.bits.specs.Answers.{asRead, asSigned, asFlag, whyRead, whySigned, whyFlag};
-ghost use Rattle.bits.specs.Windows.{bitsAt, zerosAt};
+ghost use Rattle.bits.specs.Refusals.{pick};
+ghost use Rattle.bits.specs.Windows.{bitsAt};
 
 // The place of the next bit. Bit 0 is the top bit of byte 0.
 pub struct Cursor {
@@ -48,7 +51,15 @@ impl Cursor {
     pub fn bits(self, s: &[u8], n: u32) -> Read
         ensures { λ r. ⌜ asRead r ≡ uAt n (bitsOf (now (s .entry))) (self .at) ⌝ }
     {
-        fixed_at(within(s), self.at, field_width(n))
+        let at = self.at;
+        if n <= 25 {
+            if at / 8 + 3 < reached(s.len()) {
+                let w = short_window(s, at) as u64;
+                let next = at + n as usize;
+                return Read::Got((w >> (32 - n)) as u32, Cursor { at: next });
+            }
+        }
+        slow(within(s), at, false, field_width(n))
     }
 
     // The next bit, a flag.
@@ -58,11 +69,21 @@ impl Cursor {
         flag_at(within(s), self.at)
     }
 
-    // The next ue(v).
+    // The next ue(v). With at most 12 zeros in front, which a window of at least 2^19 has, the code lies in the window's 25 bits.
     pub fn ue(self, s: &[u8]) -> Read
         ensures { λ r. ⌜ asRead r ≡ ueAt (bitsOf (now (s .entry))) (self .at) ⌝ }
     {
-        code_at(within(s), self.at)
+        let at = self.at;
+        if at / 8 + 3 < reached(s.len()) {
+            let w = short_window(s, at);
+            if 524288 <= w {
+                let z = u32::leading_zeros(w);
+                let size = 2 * z + 1;
+                let next = at + size as usize;
+                return Read::Got((w >> (32 - size)) - 1, Cursor { at: next });
+            }
+        }
+        slow(within(s), at, true, 0)
     }
 
     // The next se(v).
@@ -111,23 +132,6 @@ pub(crate) fn field_width(n: u32) -> u32
     if n <= 32 { n } else { 32 }
 }
 
-// The n bits at a place.
-fn fixed_at(s: &[u8], at: usize, n: u32) -> Read
-    requires { ⌜ (length (now s) ≤ reach) × (n ≤ 32) ⌝ }
-    ensures { λ r. ⌜ asRead r ≡ fixedAt n (bytesBits (now (s .entry))) at ⌝ }
-{
-    let end = s.len() * 8;
-    if end < at {
-        return Read::Refused(refuse_at(RAN_OUT, 0, at));
-    }
-    let size = n as usize;
-    if end - at < size {
-        return Read::Refused(refuse_at(RAN_OUT, 0, at));
-    }
-    let w = long_window(s, at) >> 32;
-    Read::Got((w >> (32 - n)) as u32, Cursor { at: at + size })
-}
-
 // The flag at a place. Its byte is enough.
 fn flag_at(s: &[u8], at: usize) -> ReadFlag
     requires { ⌜ length (now s) ≤ reach ⌝ }
@@ -141,41 +145,53 @@ fn flag_at(s: &[u8], at: usize) -> ReadFlag
     ReadFlag::Got(bit % 2 == 1, Cursor { at: at + 1 })
 }
 
-// The ue(v) code at a place. Its zeros are counted at once, on a 32-bit window.
-fn code_at(s: &[u8], at: usize) -> Read
-    requires { ⌜ length (now s) ≤ reach ⌝ }
-    ensures { λ r. ⌜ asRead r ≡ ueAt (bytesBits (now (s .entry))) at ⌝ }
+// The code or the n bits at a place, wherever they lie: what `ue` and `bits` do near the end, and for long codes and wide fields. One function, so that the
+// compiler keeps it out of line and what comes before it goes into the callers.
+fn slow(s: &[u8], at: usize, code: bool, n: u32) -> Read
+    requires { ⌜ (length (now s) ≤ reach) × (n ≤ 32) ⌝ }
+    ensures { λ r. ⌜ asRead r ≡ pick code (ueAt (bytesBits (now (s .entry))) at) (fixedAt n (bytesBits (now (s .entry))) at) ⌝ }
 {
-    let end = s.len() * 8;
-    if end < at {
+    if s.len() * 8 < at {
         return Read::Refused(refuse_at(RAN_OUT, 0, at));
     }
     let w = long_window(s, at);
-    let z = u32::leading_zeros((w >> 32) as u32);
-    if z < 32 {
-        let size = 2 * (z as usize) + 1;
-        if end - at < size {
-            return Read::Refused(refuse_at(RAN_OUT, 0, at));
-        }
-        Read::Got(value_at(s, at, w, z), Cursor { at: at + size })
+    if code {
+        code_in(s, at, w)
     } else {
-        if end - at < 32 {
-            return Read::Refused(refuse_at(RAN_OUT, 0, at));
-        }
-        Read::Refused(refuse_at(TOO_MANY_ZEROS, 0, at))
+        fixed_in(s, at, w, n)
     }
 }
 
-// The value of the code at `at` whose z zeros were counted at the top of the window w there. Where w does not hold the whole code, a second window starts at
-// its set bit.
-fn value_at(s: &[u8], at: usize, w: u64, z: u32) -> u32
-    requires { ⌜ (at + z < 2 ^ 64) × (z < 32) × (zerosAt (now s) at 32 ≡ z) × ((n : ℕ) → n ≤ 57 → w / 2 ^ (64 - n) ≡ bitsAt (now s) at n) ⌝ }
-    ensures { λ r. ⌜ r ≡ 2 ^ z - 1 + bitsAt (now (s .entry)) (at + (z + 1)) z ⌝ }
+// The n bits at a place, whose window is w.
+fn fixed_in(s: &[u8], at: usize, w: u64, n: u32) -> Read
+    requires { ⌜ (length (now s) ≤ reach) × (at ≤ 8 * length (now s)) × (w ≡ bitsAt (now s) at 64) × (n ≤ 32) ⌝ }
+    ensures { λ r. ⌜ asRead r ≡ fixedAt n (bytesBits (now (s .entry))) at ⌝ }
 {
-    if z < 29 {
-        ((w >> (63 - 2 * z)) - 1) as u32
+    let size = n as usize;
+    if s.len() * 8 - at < size {
+        return Read::Refused(refuse_at(RAN_OUT, 0, at));
+    }
+    Read::Got(((w >> 32) >> (32 - n)) as u32, Cursor { at: at + size })
+}
+
+// The ue(v) code at a place, whose window is w. Its zeros are counted at once.
+fn code_in(s: &[u8], at: usize, w: u64) -> Read
+    requires { ⌜ (length (now s) ≤ reach) × (at ≤ 8 * length (now s)) × (w ≡ bitsAt (now s) at 64) ⌝ }
+    ensures { λ r. ⌜ asRead r ≡ ueAt (bytesBits (now (s .entry))) at ⌝ }
+{
+    let left = s.len() * 8 - at;
+    let z = u32::leading_zeros((w >> 32) as u32);
+    if z < 32 {
+        let size = 2 * (z as usize) + 1;
+        if left < size {
+            return Read::Refused(refuse_at(RAN_OUT, 0, at));
+        }
+        Read::Got(((w >> (64 - size)) - 1) as u32, Cursor { at: at + size })
     } else {
-        ((long_window(s, at + z as usize) >> (63 - z)) - 1) as u32
+        if left < 32 {
+            return Read::Refused(refuse_at(RAN_OUT, 0, at));
+        }
+        Read::Refused(refuse_at(TOO_MANY_ZEROS, 0, at))
     }
 }
 

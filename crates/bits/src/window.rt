@@ -1,4 +1,4 @@
-// Numbers out of a slice: 64 bits at once from any bit place, zeros past the end.
+// Numbers out of a slice: 64 bits at once from any bit place, zeros past the end; and 25 where none of them is past it.
 ghost use mathlib.Core.Path.{_≡_};
 ghost use Prim.Native.Nat.{ℕ, _+_, _-_, _*_, _/_, _^_, _≤_, _<_};
 ghost use lib.ListN.{length, take};
@@ -51,6 +51,22 @@ fn eight(s: &[u8], i: usize) -> u64
         | one(s, i + 7)
 }
 
+// The 32 bits from byte i on.
+fn four(s: &[u8], i: usize) -> u32
+    requires { ⌜ i + 3 < length (now s) ⌝ }
+    ensures { λ r. ⌜ r ≡ bitsAt (now (s .entry)) (8 * i) 32 ⌝ }
+{
+    (one(s, i) << 24 | one(s, i + 1) << 16 | one(s, i + 2) << 8 | one(s, i + 3)) as u32
+}
+
+// The bits from bit `at` on, 25 of them at least, from the top of the result down.
+pub(crate) fn short_window(s: &[u8], at: usize) -> u32
+    requires { ⌜ at / 8 + 3 < length (now s) ⌝ }
+    ensures { λ r. ⌜ ((n : ℕ) → n ≤ 25 → r / 2 ^ (32 - n) ≡ bitsAt (now (s .entry)) at n) ⌝ }
+{
+    four(s, at / 8) << (at % 8)
+}
+
 // The 8 bits of byte i, zeros past the end.
 fn one_or_zeros(s: &[u8], i: usize) -> u64
     ensures { λ r. ⌜ r ≡ bitsAt (now (s .entry)) (8 * i) 8 ⌝ }
@@ -98,9 +114,11 @@ fn gather(s: &[u8], k: usize) -> u64
     }
 }
 
-// The bits from bit `at` on, 57 of them at least, from the top of the result down; zeros past the end.
+// The 64 bits from bit `at` on, zeros past the end.
 pub(crate) fn long_window(s: &[u8], at: usize) -> u64
-    ensures { λ r. ⌜ ((n : ℕ) → n ≤ 57 → r / 2 ^ (64 - n) ≡ bitsAt (now (s .entry)) at n) ⌝ }
+    ensures { λ r. ⌜ r ≡ bitsAt (now (s .entry)) at 64 ⌝ }
 {
-    gather(s, at / 8) << (at % 8)
+    let k = at / 8;
+    let r = at % 8;
+    gather(s, k) << r | one_or_zeros(s, k + 8) >> (8 - r)
 }

@@ -130,7 +130,8 @@ pub fn operations_onto(
     fill(s, c, kind, words)
 }
 
-// The same, with zeros in all words beside a refusal.
+// The same, with zeros in all words beside a refusal. `fill` has two callers for the compiler's sake: it is then no part of `operations_onto`, which costs a header
+// without lists a test for each.
 pub fn operations_into(
     s: &[u8],
     c: Cursor,
@@ -141,7 +142,10 @@ pub fn operations_into(
     ensures { λ r. ⌜ r ≡ listStep (operationsIf there (kindOf kind) .read (bitsOf (now (s .entry))) (c .at)) ⌝ }
     ensures { λ r. ⌜ now (words .exit) ≡ listLeft (operationsIf there (kindOf kind) .read (bitsOf (now (s .entry))) (c .at)) (now (words .entry)) ⌝ }
 {
-    let a = operations_onto(s, c, there, kind, words);
+    if !there {
+        return ListStep::Got(0, c);
+    }
+    let a = fill(s, c, kind, words);
     let ListStep::Got(_, _) = a else {
         clear_list(words);
         return a;

@@ -2,16 +2,16 @@
 use mathlib.Core.Path.{_≡_, refl, sym, _∙_}
 use mathlib.Core.List.{List}
 use mathlib.Core.Bool.{Bool, true, false, _&&_, false≢true}
-use Prim.Native.Nat.{ℕ, zero, suc, _+_, _-_, _≤_, _<_}
+use Prim.Native.Nat.{ℕ, zero, suc, _+_, _-_, _*_, _/_, _%_, _≤_, _<_}
 use native.Mathlib.Omega.{arith}
 use native.Mathlib.Nat.{add-zero, mod-eq-of-lt}
 use native.Mathlib.Decide.{decLt}
 use lib.Dec.{eqb, leb}
-use lib.Bits.{bitAnd, bitOr, bitXor, and-mask, and-zero-r, xor-self}
+use lib.Bits.{bitAnd, bitOr, bitXor, and-mask, and-le-l, and-le-r, or-add-and, xor-self}
 use borrow.Author.Tests.{eqb-true, leb-true}
 use lib.ListN.{length, getD, drop, length-drop}
 use Rattle.scan.specs.Scan.{hit, upto}
-use Rattle.scan.specs.Clear.{Spot, Clear}
+use Rattle.scan.specs.Clear.{Spot, Clear, Low, Quiet}
 use Rattle.scan.proofs.Hits.{hit-drop, hit-room, upto-miss}
 
 -- ---- the tests
@@ -39,12 +39,42 @@ module _ (m f : ℕ) (s : List ℕ) (i : ℕ) where
 pub clear-part : (m f : ℕ) (s : List ℕ) (i e i′ e′ : ℕ) → i ≤ i′ → e′ ≤ e → Clear m f s i e → Clear m f s i′ e′
 clear-part m f s i e i′ e′ a b c j x y p = c j (omega arith) (omega arith) p
 
--- where no two zeros stand side by side, nothing begins
-pub clear-pairs : (m f : ℕ) (s : List ℕ) (i e : ℕ) → Clear 0 0 s i e → Clear m f s i e
-clear-pairs m f s i e c j a b p = c j a b (record { one = p .one; two = p .two; three = and-none (getD s (j + 2) 0) })
+-- ---- every other place
+
+or-zero : (x y : ℕ) → bitOr x y ≡ 0 → (x ≡ 0) × (y ≡ 0)
+or-zero x y e = (omega (arith, e, or-add-and x y, and-le-r x y), omega (arith, e, or-add-and x y, and-le-l x y))
+
+-- what two bytes are as one number, and what the test makes of it
+pub low-zero : (x y : ℕ) → x ≡ 0 → y ≤ 3 → bitAnd (bitOr x (y * 256 % 65536)) 64767 ≡ 0
+low-zero x zero e h = rw e
+low-zero x (suc zero) e h = rw e
+low-zero x (suc (suc zero)) e h = rw e
+low-zero x (suc (suc (suc zero))) e h = rw e
+low-zero x (suc (suc (suc (suc y)))) e h = absurd (omega arith)
+
+pub quiet-step : (s : List ℕ) (i k x t : ℕ) → (x ≡ 0 → Quiet s i k) → (Low s (i + 1 + 2 * k) → t ≡ 1) → bitOr x t ≡ 0 → Quiet s i (k + 1)
+quiet-step s i k x t c d e j h p = go (decLt j k)
   where
-    and-none : (x : ℕ) → bitXor (bitAnd x 0) 0 ≡ 0
-    and-none x = rw (and-zero-r x)
+    go : Dec (j < k) → ⊥
+    go (yes l) = c (or-zero x t e .0) j l p
+    go (no l) = let q : j ≡ k = omega arith in omega (arith, d (rw q at p), or-zero x t e .1)
+
+-- where the pairs at every other place are not low, nothing begins: of three such bytes the first two or the last two are one of those pairs
+pub clear-quiet : (m f : ℕ) (s : List ℕ) (i half : ℕ) → Quiet s i half → Clear m f s i (i + 2 * half)
+clear-quiet m f s i half c j a b p = go (decLt ((j - i) % 2) 1)
+  where
+    k : ℕ
+    k = (j - i) / 2
+
+    go : Dec ((j - i) % 2 < 1) → ⊥
+    go (yes e) =
+        let q : j + 1 ≡ i + 1 + 2 * k = omega arith in
+        let r : j + 2 ≡ i + 1 + 2 * k + 1 = omega arith in
+        c k (omega arith) (record { one = rw q at (p .two); two = rw r at (p .small) })
+    go (no e) =
+        let q : j ≡ i + 1 + 2 * k = omega arith in
+        let r : getD s (i + 1 + 2 * k + 1) 0 ≡ 0 = rw q at (p .two) in
+        c k (omega arith) (record { one = rw q at (p .one); two = omega (arith, r) })
 
 -- ---- the first place of a block
 
@@ -57,8 +87,8 @@ module _ (mask f : ℕ) (s : List ℕ) (i : ℕ) where
       go (yes l) = omega (arith, c j l q)
       go (no l) = let r : j ≡ k = omega arith in omega (arith, e (d (rw r at q)))
 
-  pub first-clear : (m : ℕ) → m ≤ 128 → ((j : ℕ) → j < 128 → Spot mask f s (i + j) → m ≤ j) → Clear mask f s i (i + m)
-  first-clear m h c j a b p =
+  pub first-clear : (n m : ℕ) → m ≤ n → ((j : ℕ) → j < n → Spot mask f s (i + j) → m ≤ j) → Clear mask f s i (i + m)
+  first-clear n m h c j a b p =
       let q : j ≡ i + (j - i) = omega arith in
       omega (arith, c (j - i) (omega arith) (rw q at p))
 
@@ -90,10 +120,10 @@ module _ (k m : ℕ) (s : List ℕ) (j : ℕ) (e : hit k m (drop j s) ≡ true) 
       (eqb-true (getD s j 0) 0 (p .0), eqb-true (getD s (j + 1) 0) 0 (p .1), leb-true k (getD s (j + 2) 0) (p .2), leb-true (getD s (j + 2) 0) m (p .3))
 
   spot-low : m ≤ 1 → Spot 254 0 s j
-  spot-low g = record { one = four .0; two = four .1; three = low-byte (getD s (j + 2) 0) (omega (arith, four .3)) }
+  spot-low g = record { one = four .0; two = four .1; three = low-byte (getD s (j + 2) 0) (omega (arith, four .3)); small = omega (arith, four .3) }
 
-  spot-one : k ≡ m → k < 256 → Spot 255 k s j
-  spot-one q g = let c : getD s (j + 2) 0 ≡ k = omega (arith, four .2, four .3) in record { one = four .0; two = four .1; three = rw c (same-byte k g) }
+  spot-one : k ≡ m → k ≤ 3 → Spot 255 k s j
+  spot-one q g = let c : getD s (j + 2) 0 ≡ k = omega (arith, four .2, four .3) in record { one = four .0; two = four .1; three = rw c (same-byte k (omega arith)); small = omega (arith, four .3) }
 
 -- no hit begins in a part, so the search goes on behind it
 upto-clear : (k m : ℕ) (s : List ℕ) (i n : ℕ) → i + n ≤ length s → ((j : ℕ) → i ≤ j → j < i + n → hit k m (drop j s) ≡ true → ⊥)
@@ -117,5 +147,5 @@ module _ (k m : ℕ) (s : List ℕ) (from r : ℕ) (a : from ≤ r) (b : r ≤ l
   pub near-low : m ≤ 1 → Clear 254 0 s from r → from + upto k m (drop from s) ≡ r + upto k m (drop r s)
   near-low g c = gone-on (λ j x y e. c j x y (spot-low k m s j e g))
 
-  pub near-one : k ≡ m → k < 256 → Clear 255 k s from r → from + upto k m (drop from s) ≡ r + upto k m (drop r s)
+  pub near-one : k ≡ m → k ≤ 3 → Clear 255 k s from r → from + upto k m (drop from s) ≡ r + upto k m (drop r s)
   near-one q g c = gone-on (λ j x y e. c j x y (spot-one k m s j e q g))

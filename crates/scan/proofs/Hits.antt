@@ -1,9 +1,10 @@
 -- Where 00 00 and a byte within bounds stand, and where the first of them is: what searches cite. k and m are the bounds.
-use mathlib.Core.Path.{_≡_, refl}
+use mathlib.Core.Path.{_≡_, refl, _∙_}
 use mathlib.Core.List.{List, [], _∷_}
 use mathlib.Core.Bool.{Bool, true, false, _&&_, and-false, false≢true}
 use Prim.Native.Nat.{ℕ, zero, suc, _+_, _≤_, _<_}
 use native.Mathlib.Omega.{arith}
+use native.Mathlib.Decide.{decLt}
 use native.Mathlib.Numerals.{add-one}
 use lib.Dec.{eqb, leb}
 use borrow.Author.Tests.{le-leb, lt-leb, eq-eqb, ne-eqb}
@@ -34,6 +35,9 @@ module _ (k m : ℕ) (s : List ℕ) (i : ℕ) (h : i + 2 < length s) where
 
   pub hit-no-3 : getD s (i + 2) 0 < k → hit k m (drop i s) ≡ false
   hit-no-3 n = rw (hit-drop k m s i h, lt-leb k (getD s (i + 2) 0) n) (simp and-false)
+
+  pub hit-no-4 : m < getD s (i + 2) 0 → hit k m (drop i s) ≡ false
+  hit-no-4 n = rw (hit-drop k m s i h, lt-leb (getD s (i + 2) 0) m n) (simp and-false)
 
   pub hit-yes : getD s i 0 ≡ 0 → getD s (i + 1) 0 ≡ 0 → k ≤ getD s (i + 2) 0 → hit k m (drop i s) ≡ leb (getD s (i + 2) 0) m
   hit-yes a b n = rw (hit-drop k m s i h, eq-eqb (getD s i 0) 0 a, eq-eqb (getD s (i + 1) 0) 0 b, le-leb k (getD s (i + 2) 0) n)
@@ -77,6 +81,24 @@ upto-miss k m s i h e =
     let d : drop i s ≡ getD s i 0 ∷ drop (suc i) s = drop-cons s i 0 h in
     let f : hit k m (getD s i 0 ∷ drop (suc i) s) ≡ false = rw (← d) e in
     rw (add-one, d, f) (omega arith)
+
+-- a byte over the upper bound is none of the three
+pub upto-skip : (k m : ℕ) (s : List ℕ) (i : ℕ) → i + 2 < length s → m < getD s (i + 2) 0
+    → i + upto k m (drop i s) ≡ i + 3 + upto k m (drop (i + 3) s)
+upto-skip k m s i h g =
+    let q : i + 1 + 1 ≡ i + 2 = omega arith in
+    let r : i + 2 + 1 ≡ i + 3 = omega arith in
+    upto-miss k m s i (omega arith) (hit-no-4 k m s i h g)
+    ∙ (rw q at (upto-miss k m s (i + 1) (omega arith) (second (decLt (i + 1 + 2) (length s)))))
+    ∙ (rw r at (upto-miss k m s (i + 2) h (third (decLt (i + 2 + 2) (length s)))))
+  where
+    second : Dec (i + 1 + 2 < length s) → hit k m (drop (i + 1) s) ≡ false
+    second (yes l) = let q : i + 2 ≡ i + 1 + 1 = omega arith in let g′ : m < getD s (i + 1 + 1) 0 = rw q at g in hit-no-2 k m s (i + 1) l (λ e. omega (arith, g′, e))
+    second (no l) = hit-short k m s (i + 1) (omega arith)
+
+    third : Dec (i + 2 + 2 < length s) → hit k m (drop (i + 2) s) ≡ false
+    third (yes l) = hit-no-1 k m s (i + 2) l (λ e. omega (arith, g, e))
+    third (no l) = hit-short k m s (i + 2) (omega arith)
 
 pub upto-short : (k m : ℕ) (l : List ℕ) → length l ≤ 2 → upto k m l ≡ length l
 upto-short k m [] h = refl

@@ -1,10 +1,10 @@
 // Passing over blocks in which nothing begins that is sought. One test of three bytes serves every kind: `mask` and `flip` take the third byte to 0 where it is
-// one that is sought. The loops of a block have a fixed count and no branch, so that the compiler makes vectors of them.
+// one that is sought, and none over 3 is. The loops of a block have a fixed count and no branch, so that the compiler makes vectors of them.
 ghost use mathlib.Core.Bool.{true};
 ghost use mathlib.Core.Path.{_≡_};
-ghost use Prim.Native.Nat.{_+_, _<_, _≤_};
+ghost use Prim.Native.Nat.{_+_, _*_, _<_, _≤_};
 ghost use lib.ListN.{length};
-ghost use Rattle.scan.specs.Clear.{Spot, Clear};
+ghost use Rattle.scan.specs.Clear.{Spot, Clear, Low, Quiet};
 
 // The smaller of two bytes.
 fn lower(a: u8, b: u8) -> u8
@@ -35,51 +35,80 @@ fn is_clear(s: &[u8], i: usize, count: usize, mask: u8, flip: u8) -> bool
     0 < m
 }
 
-// The same by two tests: most blocks have no two zero bytes side by side, and a mask of 0 tests for these alone, at half the price.
-fn is_passed(s: &[u8], i: usize, count: usize, mask: u8, flip: u8) -> bool
-    requires { ⌜ i + count + 2 ≤ length (now s) ⌝ }
-    ensures { λ r. ⌜ (r ≡ true → Clear mask flip (now (s .entry)) i (i + count)) ⌝ }
+fn wide(x: u8) -> u16
+    ensures { λ r. ⌜ r ≡ x ⌝ }
 {
-    if is_clear(s, i, count, 0, 0) {
+    x as u16
+}
+
+// 1 where 00 and a byte up to 03 stand at `j`. The compiler makes one load of the two bytes.
+fn low(s: &[u8], j: usize) -> u16
+    requires { ⌜ j + 1 < length (now s) ⌝ }
+    ensures { λ r. ⌜ (Low (now (s .entry)) j → r ≡ 1) ⌝ }
+{
+    let w = wide(s[j]) | wide(s[j + 1]) << 8;
+    if w & 0xFCFF == 0 { 1 } else { 0 }
+}
+
+// Whether 00 and a byte up to 03 stand at none of `half` places, every other one behind `i`. Of the three bytes that are sought, those at the first two places or
+// those at the last two are such a pair, so that one of them is seen: half the tests, and each byte is loaded once.
+fn is_quiet(s: &[u8], i: usize, half: usize) -> bool
+    requires { ⌜ i + 2 * half + 2 ≤ length (now s) ⌝ }
+    ensures { λ r. ⌜ (r ≡ true → Quiet (now (s .entry)) i half) ⌝ }
+{
+    let mut m: u16 = 0;
+    let mut k: usize = 0;
+    while k < half {
+        m = m | low(s, i + 1 + 2 * k);
+        k += 1;
+    }
+    m == 0
+}
+
+// Whether nothing that is sought begins at any of `2 * half` places, by two tests: most blocks are quiet, which costs a third.
+fn is_passed(s: &[u8], i: usize, half: usize, mask: u8, flip: u8) -> bool
+    requires { ⌜ i + 2 * half + 2 ≤ length (now s) ⌝ }
+    ensures { λ r. ⌜ (r ≡ true → Clear mask flip (now (s .entry)) i (i + 2 * half)) ⌝ }
+{
+    if is_quiet(s, i, half) {
         return true;
     }
-    is_clear(s, i, count, mask, flip)
+    is_clear(s, i, 2 * half, mask, flip)
 }
 
-// `k` where `x` is 0, and else 128.
-fn place_of(x: u8, k: u8) -> u8
-    requires { ⌜ k < 128 ⌝ }
+// `k` where `x` is 0, and else `count`.
+fn place_of(x: u8, k: u8, count: u8) -> u8
     ensures { λ r. ⌜ (x ≡ 0 → r ≤ k) ⌝ }
 {
-    if x == 0 { k } else { 128 }
+    if x == 0 { k } else { count }
 }
 
-// The first of 128 places where something begins that is sought; 128 where nothing does.
-fn first_of_128(s: &[u8], i: usize, mask: u8, flip: u8) -> u8
-    requires { ⌜ i + 130 ≤ length (now s) ⌝ }
-    ensures { λ r. ⌜ (r ≤ 128) × Clear mask flip (now (s .entry)) i (i + r) ⌝ }
+// The first of `count` places where something begins that is sought; `count` where nothing does.
+fn first_of(s: &[u8], i: usize, count: u8, mask: u8, flip: u8) -> u8
+    requires { ⌜ i + count + 2 ≤ length (now s) ⌝ }
+    ensures { λ r. ⌜ (r ≤ count) × Clear mask flip (now (s .entry)) i (i + r) ⌝ }
 {
-    let mut m: u8 = 128;
+    let mut m = count;
     let mut k: u8 = 0;
-    while k < 128 {
+    while k < count {
         let x = trace(s, i + k as usize, mask, flip);
-        m = lower(m, place_of(x, k));
+        m = lower(m, place_of(x, k, count));
         k += 1;
     }
     m
 }
 
-// A place from `from` on before which nothing begins that is sought: by blocks of `count` bytes.
-fn pass_blocks(s: &[u8], from: usize, count: usize, mask: u8, flip: u8) -> usize
+// A place from `from` on before which nothing begins that is sought: by blocks of `2 * half` bytes.
+fn pass_blocks(s: &[u8], from: usize, half: usize, mask: u8, flip: u8) -> usize
     requires { ⌜ from ≤ length (now s) ⌝ }
-    requires { ⌜ (0 < count) × (count ≤ 128) ⌝ }
+    requires { ⌜ (0 < half) × (half ≤ 64) ⌝ }
     ensures { λ r. ⌜ (from ≤ r) × (r ≤ length (now (s .entry))) × Clear mask flip (now (s .entry)) from r ⌝ }
 {
     let n = s.len();
     let mut i = from;
-    while count + 2 <= n - i {
-        if is_passed(s, i, count, mask, flip) {
-            i += count;
+    while 2 * half + 2 <= n - i {
+        if is_passed(s, i, half, mask, flip) {
+            i += 2 * half;
         } else {
             return i;
         }
@@ -94,14 +123,14 @@ fn pass_end(s: &[u8], from: usize, mask: u8, flip: u8) -> usize
 {
     let n = s.len();
     if 130 <= n {
-        if is_passed(s, n - 130, 128, mask, flip) {
+        if is_passed(s, n - 130, 64, mask, flip) {
             if from < n - 2 {
                 return n - 2;
             }
             return from;
         }
     }
-    pass_blocks(s, from, 16, mask, flip)
+    pass_blocks(s, from, 8, mask, flip)
 }
 
 // The same within 128 bytes: the place itself, or near the end a place that is near it.
@@ -112,7 +141,7 @@ fn pass_near(s: &[u8], from: usize, mask: u8, flip: u8) -> usize
     if s.len() - from < 130 {
         return pass_end(s, from, mask, flip);
     }
-    let m = first_of_128(s, from, mask, flip);
+    let m = first_of(s, from, 128, mask, flip);
     from + m as usize
 }
 
@@ -121,6 +150,21 @@ pub(crate) fn pass_over(s: &[u8], from: usize, mask: u8, flip: u8) -> usize
     requires { ⌜ from ≤ length (now s) ⌝ }
     ensures { λ r. ⌜ (from ≤ r) × (r ≤ length (now (s .entry))) × Clear mask flip (now (s .entry)) from r ⌝ }
 {
-    let i = pass_blocks(s, from, 128, mask, flip);
+    let i = pass_blocks(s, from, 64, mask, flip);
     pass_near(s, i, mask, flip)
+}
+
+// The same where what is sought may well be near: the first 32 places are tried by themselves.
+pub(crate) fn pass_soon(s: &[u8], from: usize, mask: u8, flip: u8) -> usize
+    requires { ⌜ from ≤ length (now s) ⌝ }
+    ensures { λ r. ⌜ (from ≤ r) × (r ≤ length (now (s .entry))) × Clear mask flip (now (s .entry)) from r ⌝ }
+{
+    if s.len() - from < 34 {
+        return pass_over(s, from, mask, flip);
+    }
+    let m = first_of(s, from, 32, mask, flip);
+    if m < 32 {
+        return from + m as usize;
+    }
+    pass_over(s, from, mask, flip)
 }

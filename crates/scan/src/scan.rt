@@ -1,5 +1,6 @@
 // The search for 00 00 and a byte within bounds.
 use crate::blocks::pass_over;
+use crate::blocks::pass_soon;
 ghost use mathlib.Core.Path.{_≡_};
 ghost use Prim.Native.Nat.{_+_, _≤_};
 ghost use lib.ListN.{length, drop};
@@ -28,7 +29,7 @@ pub fn hit_at(s: &[u8], i: usize, low: u8, high: u8) -> bool
     c <= high
 }
 
-// The plain search, a byte at a time.
+// The plain search. A byte over `high` is none of the three that are sought, so that it goes on behind it.
 fn seek_plain(s: &[u8], from: usize, low: u8, high: u8) -> usize
     requires { ⌜ from ≤ length (now s) ⌝ }
     ensures { λ r. ⌜ r ≡ from + upto low high (drop from (now (s .entry))) ⌝ }
@@ -36,26 +37,33 @@ fn seek_plain(s: &[u8], from: usize, low: u8, high: u8) -> usize
     let n = s.len();
     let mut i = from;
     while 2 < n - i {
-        if hit_at(s, i, low, high) {
-            return i;
+        if high < s[i + 2] {
+            i += 3;
+        } else {
+            if hit_at(s, i, low, high) {
+                return i;
+            }
+            i += 1;
         }
-        i += 1;
     }
     n
 }
 
-// A place from `from` on with no hit before it. For one byte, and for 0 to 1, it passes over blocks.
+// A place from `from` on with no hit before it. For one byte up to 3, and for 0 to 1, it passes over blocks; the end mark of a short unit is near.
 fn near(s: &[u8], from: usize, low: u8, high: u8) -> usize
     requires { ⌜ from ≤ length (now s) ⌝ }
     ensures { λ r. ⌜ (r ≤ length (now (s .entry))) × (from + upto low high (drop from (now (s .entry))) ≡ r + upto low high (drop r (now (s .entry)))) ⌝ }
 {
+    if 3 < high {
+        return from;
+    }
     if low == high {
         return pass_over(s, from, 255, low);
     }
     if 1 < high {
         return from;
     }
-    pass_over(s, from, 254, 0)
+    pass_soon(s, from, 254, 0)
 }
 
 // The first place from `from` on where 00 00 and a byte from `low` to `high` stand, or the end; `from` itself where that lies behind the end.

@@ -4,7 +4,7 @@ use mathlib.Core.Path.{_≡_, refl, sym, ap, _∙_}
 use Prim.Native.Nat.{ℕ, _+_, _-_, _≤_}
 use lib.ListN.{length, drop, length-drop}
 use Rattle.scan.specs.Scan.{upto}
-use Rattle.scan.proofs.Hits.{upto-hit, upto-miss, upto-short}
+use Rattle.scan.proofs.Hits.{upto-hit, upto-miss, upto-skip, upto-short}
 use Rattle.scan.proofs.scan.seek_plain.Statement.{statement}
 use Rattle.scan.proofs.scan.seek_plain.Tie as tie
 
@@ -14,17 +14,24 @@ Inv-loop s from low high n i₀ i = (i ≤ length s) × (from + upto low high (d
 abbrev μ-loop : tie.MeasureT-loop
 μ-loop s from low high n i₀ i = length s - i
 
-returns : tie.Need-returns Inv-loop μ-loop
-returns c =
-    let a = c .before .before .before .before .before .args in
-    let z : upto (a .low) (a .high) (drop (c .before .before .before .loop .i) (a .s .now)) ≡ 0 = upto-hit (a .low) (a .high) (drop (c .before .before .before .loop .i) (a .s .now)) (sym (c .before .hit-at .ensures) ∙ c .if1 .taken) in
-    omega arith
-
 loop-again : tie.Need-loop-again Inv-loop μ-loop
 loop-again c =
-    let a = c .before .before .before .before .before .args in
-    let i = c .before .before .before .loop .i in
-    (omega arith, c .before .before .before .loop .inv .1 ∙ upto-miss (a .low) (a .high) (a .s .now) i (omega arith) (sym (c .before .hit-at .ensures) ∙ c .if1 .left))
+    let l = c .before .before .before in
+    let a = l .before .before .args in
+    (omega arith, l .loop .inv .1 ∙ upto-skip (a .low) (a .high) (a .s .now) (l .loop .i) (omega arith) (c .if1 .taken))
+
+returns : tie.Need-returns Inv-loop μ-loop
+returns c =
+    let l = c .before .before .before .before .before in
+    let a = l .before .before .args in
+    let z : upto (a .low) (a .high) (drop (l .loop .i) (a .s .now)) ≡ 0 = upto-hit (a .low) (a .high) (drop (l .loop .i) (a .s .now)) (sym (c .before .hit-at .ensures) ∙ c .if2 .taken) in
+    omega arith
+
+loop-again-2 : tie.Need-loop-again-2 Inv-loop μ-loop
+loop-again-2 c =
+    let l = c .before .before .before .before .before in
+    let a = l .before .before .args in
+    (omega arith, l .loop .inv .1 ∙ upto-miss (a .low) (a .high) (a .s .now) (l .loop .i) (omega arith) (sym (c .before .hit-at .ensures) ∙ c .if2 .left))
 
 returns-2 : tie.Need-returns-2 Inv-loop μ-loop
 returns-2 c =
@@ -42,9 +49,14 @@ seek-plain-spec =
     μ-loop
     (λ c. search needs)
     (λ c. search needs)
+    (λ c. search needs)
+    (λ c. search needs)
+    (λ c. search needs)
+    (λ c. search needs)
+    loop-again
     (λ c κs. search needs)
     returns
     (λ c. search needs)
     (λ c. search needs)
-    loop-again
+    loop-again-2
     returns-2)

@@ -4,14 +4,14 @@ use mathlib.Core.Path.{_≡_}
 use Prim.Native.Nat.{ℕ, _+_, _-_, _≤_, _<_}
 use Rattle.scan.specs.Clear.{Spot}
 use Rattle.scan.proofs.Clears.{first-step, first-clear}
-use Rattle.scan.proofs.blocks.first_of_128.Statement.{statement}
-use Rattle.scan.proofs.blocks.first_of_128.Tie as tie
+use Rattle.scan.proofs.blocks.first_of.Statement.{statement}
+use Rattle.scan.proofs.blocks.first_of.Tie as tie
 
 abbrev Inv-loop : tie.InvT-loop
-Inv-loop s i mask flip m₀ k₀ m k = (k ≤ 128) × (m ≤ 128) × ((j : ℕ) → j < k → Spot mask flip s (i + j) → m ≤ j)
+Inv-loop s i count mask flip m₀ k₀ m k = (k ≤ count) × (m ≤ count) × ((j : ℕ) → j < k → Spot mask flip s (i + j) → m ≤ j)
 
 abbrev μ-loop : tie.MeasureT-loop
-μ-loop s i mask flip m₀ k₀ m k = 128 - k
+μ-loop s i count mask flip m₀ k₀ m k = count - k
 
 loop-holds : tie.Need-loop-holds Inv-loop μ-loop
 loop-holds c = (omega arith, omega arith, λ j h p. absurd (omega arith))
@@ -32,11 +32,11 @@ returns : tie.Need-returns Inv-loop μ-loop
 returns c =
     let l = c .before in
     let a = l .before .before .args in
-    let q : l .loop .k ≡ 128 = omega arith in
-    (l .loop .inv .1, first-clear (a .mask) (a .flip) (a .s .now) (a .i) (l .loop .m) (l .loop .inv .1) (λ j h p. l .loop .inv .2 j (omega arith) p))
+    let q : l .loop .k ≡ a .count = omega arith in
+    (l .loop .inv .1, first-clear (a .mask) (a .flip) (a .s .now) (a .i) (a .count) (l .loop .m) (l .loop .inv .1) (λ j h p. l .loop .inv .2 j (omega arith) p))
 
-pub first-of-128-spec : {M : Type 1} → statement M
-first-of-128-spec =
+pub first-of-spec : {M : Type 1} → statement M
+first-of-spec =
     tie.close
     (tie.spec
     Inv-loop
