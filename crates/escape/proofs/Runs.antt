@@ -2,19 +2,21 @@
 use mathlib.Core.Path.{_≡_, refl, sym, ap, _∙_}
 use mathlib.Core.List.{List, [], _∷_, _++_, append-assoc, append-nil}
 use mathlib.Core.Bool.{Bool, true, false, false≢true}
-use Prim.Native.Nat.{ℕ, zero, suc, _+_, _-_, _≤_, _<_}
+use Prim.Native.Nat.{ℕ, zero, suc, _+_, _-_, _≤_, _<_, max}
 use native.Mathlib.Omega.{arith}
-use native.Mathlib.Nat.{add-zero}
-use native.Mathlib.Decide.{decLt}
+use native.Mathlib.Nat.{add-zero, le-max-left}
+use native.Mathlib.Decide.{decLt, decLe}
 use lib.Dec.{eqb}
 use borrow.Author.Tests.{le-leb, ne-eqb, eqb-true}
-use lib.ListN.{length, getD, take, drop, length-drop, length-take, List·getD-eq-default, drop-of-length-le, take-append-drop}
-use lib.Seq.{drop-cons, getD-drop, drop-drop, take-add, take-length, length-take-le, paste, take-paste, drop-paste, length-paste}
+use lib.ListN.{length, getD, take, drop, length-drop, length-take, length-append, List·getD-eq-default, drop-of-length-le, take-append-drop}
+use lib.Seq.{drop-cons, getD-drop, drop-drop, take-add, take-all, take-length, length-take-le, paste, take-paste, drop-paste, length-paste}
 use Rattle.bits.specs.Refusals.{pick}
 use Rattle.scan.specs.Scan.{hit, upto}
-use Rattle.scan.proofs.Hits.{hit-yes, upto-before, upto-at}
-use Rattle.scan.proofs.Clears.{four}
+use Rattle.scan.proofs.Hits.{hit-yes, upto-at}
+use Rattle.scan.proofs.Clears.{four, none-hit}
 use Rattle.escape.specs.Body.{body}
+use Rattle.escape.specs.Known.{knownBody}
+use Rattle.escape.proofs.Bodies.{body-length}
 
 -- 00 00 03 stands at j
 pub record Esc (s : List ℕ) (j : ℕ) : Type 0 where
@@ -89,29 +91,85 @@ module _ (s : List ℕ) (j : ℕ) (p : Esc s j) where
       let e3 : suc (j + 2) ≡ j + 3 = omega arith in
       rw (drop-cons s j 0 (omega arith), e1, drop-cons s (j + 1) 0 (omega arith), e2, drop-cons s (j + 2) 0 h2, e3, p .one, p .two, p .three)
 
-  pub run-escape : (i : ℕ) → i ≤ j → NoEsc s i j → body 0 (drop i s) ≡ take (j + 2 - i) (drop i s) ++ body 0 (drop (j + 3) s)
-  run-escape i h n =
-      let g : j + 2 < length s = esc-room p in
-      let a : i + (j - i) ≡ j = omega arith in
-      let b : j + 2 - i ≡ j - i + 2 = omega arith in
-      rw (body-run s i (j - i) (omega arith) (rw a n), b, take-add (j - i) 2 (drop i s), drop-drop (j - i) i s, a, esc-drop) (sym (append-assoc (take (j - i) (drop i s)) (0 ∷ 0 ∷ []) (body 0 (drop (j + 3) s))))
+-- ---- bytes that are known to begin none
 
-pub run-end : (s : List ℕ) (i : ℕ) → i ≤ length s → NoEsc s i (length s) → body 0 (drop i s) ≡ take (length s - i) (drop i s) ++ body 0 (drop (length s) s)
-run-end s i h n =
-    let a : i + (length s - i) ≡ length s = omega arith in
-    rw (body-run s i (length s - i) (omega arith) (rw a n), a)
+-- all of them
+known-past : (s : List ℕ) (i k : ℕ) → length s ≤ k → knownBody s i k ≡ drop i s
+known-past s i k h =
+    let l : length (drop i s) ≤ k - i = rw length-drop (omega arith) in
+    rw (take-all (k - i) (drop i s) l, drop-of-length-le (drop i s) l) (append-nil (drop i s))
+
+-- where none begins from a up to b, it is the same to know as far as a or as b
+known-on : (s : List ℕ) (i a b : ℕ) → i ≤ a → a ≤ b → NoEsc s a b → knownBody s i a ≡ knownBody s i b
+known-on s i a b g h n = go (decLe b (length s)) (decLe a (length s))
+  where
+    on : (e : ℕ) → a ≤ e → e ≤ length s → NoEsc s a e → knownBody s i a ≡ knownBody s i e
+    on e x y m =
+        let p : i + (a - i) ≡ a = omega arith in
+        let q : a + (e - a) ≡ e = omega arith in
+        let r : e - i ≡ a - i + (e - a) = omega arith in
+        let u : i + (a - i + (e - a)) ≡ e = omega arith in
+        rw (r, take-add (a - i) (e - a) (drop i s), drop-drop (a - i) i s, drop-drop (a - i + (e - a)) i s, p, u, body-run s a (e - a) (omega arith) (rw q m), q)
+        (sym (append-assoc (take (a - i) (drop i s)) (take (e - a) (drop a s)) (body 0 (drop e s))))
+
+    go : Dec (b ≤ length s) → Dec (a ≤ length s) → knownBody s i a ≡ knownBody s i b
+    go (yes x) y = on b h x n
+    go (no x) (yes y) = on (length s) y (omega arith) (λ j c d p. n j c (omega arith) p) ∙ known-past s i (length s) (omega arith) ∙ sym (known-past s i b (omega arith))
+    go (no x) (no y) = known-past s i a (omega arith) ∙ sym (known-past s i b (omega arith))
+
+-- past the unit's end there is none
+pub no-known : (unit : List ℕ) (from known : ℕ) → length unit ≤ from → knownBody unit from known ≡ []
+no-known unit from known h = rw (drop-of-length-le unit {i = from} h) (none (known - from))
+  where
+    none : (k : ℕ) → take k [] ++ body 0 (drop k []) ≡ []
+    none zero = refl
+    none (suc k) = refl
+
+-- what is known as far as the start is nothing
+known-here : (s : List ℕ) (i k : ℕ) → k ≤ i → knownBody s i k ≡ body 0 (drop i s)
+known-here s i k h = let z : k - i ≡ 0 = omega arith in rw z
+
+-- so the bytes that are known are the body's
+pub known-body : (s : List ℕ) (from known : ℕ) → NoEsc s from known → knownBody s from known ≡ body 0 (drop from s)
+known-body s from known n = go (decLe from known)
+  where
+    go : Dec (from ≤ known) → knownBody s from known ≡ body 0 (drop from s)
+    go (yes h) = sym (known-on s from from known (omega arith) h n) ∙ known-here s from from (omega arith)
+    go (no h) = known-here s from known (omega arith)
+
+-- they are no longer than the unit either
+pub known-length : (unit : List ℕ) (from known : ℕ) → length (knownBody unit from known) ≤ length unit
+known-length unit from known =
+    let b = body-length 0 (drop (known - from) (drop from unit)) in
+    let t : length (take (known - from) (drop from unit)) + length (drop (known - from) (drop from unit)) ≡ length (drop from unit)
+    = sym (length-append (take (known - from) (drop from unit)) (drop (known - from) (drop from unit))) ∙ ap length (take-append-drop (known - from) (drop from unit)) in
+    rw length-append (omega (arith, length-drop from unit))
+
+-- a run up to an escape, and what comes behind it
+known-run : (s : List ℕ) (i k j : ℕ) → i ≤ k → k ≤ j → NoEsc s k j → Esc s j → knownBody s i k ≡ take (j + 2 - i) (drop i s) ++ body 0 (drop (j + 3) s)
+known-run s i k j g h n p =
+    let a : i + (j - i) ≡ j = omega arith in
+    let b : j + 2 - i ≡ j - i + 2 = omega arith in
+    known-on s i k j g h n ∙ rw (b, take-add (j - i) 2 (drop i s), drop-drop (j - i) i s, a, esc-drop s j p) (sym (append-assoc (take (j - i) (drop i s)) (0 ∷ 0 ∷ []) (body 0 (drop (j + 3) s))))
+
+-- the last run
+known-end : (s : List ℕ) (i k : ℕ) → i ≤ k → NoEsc s k (length s) → knownBody s i k ≡ take (length s - i) (drop i s)
+known-end s i k g n =
+    let l : length (drop i s) ≤ length s - i = rw length-drop (omega arith) in
+    go (decLe k (length s)) ∙ sym (take-all (length s - i) (drop i s) l)
+  where
+    go : Dec (k ≤ length s) → knownBody s i k ≡ drop i s
+    go (yes h) = known-on s i k (length s) g h n ∙ known-past s i (length s) (omega arith)
+    go (no h) = known-past s i k (omega arith)
 
 -- ---- what the search finds
 
-esc-hit : (s : List ℕ) (j : ℕ) → Esc s j → hit 3 3 (drop j s) ≡ true
+pub esc-hit : (s : List ℕ) (j : ℕ) → Esc s j → hit 3 3 (drop j s) ≡ true
 esc-hit s j p = hit-yes 3 3 s j (esc-room p) (p .one) (p .two) (omega (arith, p .three)) ∙ rw (p .three)
 
 module _ (s : List ℕ) (i e : ℕ) (is : e ≡ i + upto 3 3 (drop i s)) where
   pub none-before : NoEsc s i e
-  none-before j a b p =
-      let q : j ≡ i + (j - i) = omega arith in
-      let h : hit 3 3 (drop (j - i) (drop i s)) ≡ false = upto-before 3 3 (drop i s) (j - i) (omega arith) in
-      false≢true (sym h ∙ ap (hit 3 3) (drop-drop (j - i) i s) ∙ ap (λ (k : ℕ). hit 3 3 (drop k s)) (sym q) ∙ esc-hit s j p)
+  none-before j a b p = false≢true (sym (none-hit 3 3 s i e is j a b) ∙ esc-hit s j p)
 
   pub none-left : length s ≤ e → NoEsc s i (length s)
   none-left h j a b p = none-before j a (omega arith) p
@@ -125,58 +183,62 @@ module _ (s : List ℕ) (i e : ℕ) (is : e ≡ i + upto 3 3 (drop i s)) where
 
 -- ---- what `copy_kept` keeps
 
-pub record Copied (unit : List ℕ) (from : ℕ) (scratch₀ scratch : List ℕ) (i o : ℕ) : Type 0 where
+-- what is copied up to i, where the rest is known as far as k, is `all`
+pub record Copied (unit all : List ℕ) (from : ℕ) (scratch₀ scratch : List ℕ) (i o k : ℕ) : Type 0 where
   pub within : i ≤ length unit
+  pub ahead : i ≤ k
   pub room : o + from ≤ i
   pub same : length scratch ≡ length scratch₀
-  pub done : take o scratch ++ body 0 (drop i unit) ≡ body 0 (drop from unit)
+  pub done : take o scratch ++ knownBody unit i k ≡ all
   pub rest : drop o scratch ≡ drop o scratch₀
 
-pub started : (unit : List ℕ) (from : ℕ) (s : List ℕ) → from ≤ length unit → Copied unit from s s from 0
-started unit from s h = record { within = h; room = omega arith; same = refl; done = refl; rest = refl }
-
-finished : (unit : List ℕ) (from : ℕ) (s₀ s : List ℕ) (i o : ℕ) → Copied unit from s₀ s i o → length unit ≤ i → o ≤ length s
-    → (o ≡ length (body 0 (drop from unit))) × (s ≡ body 0 (drop from unit) ++ drop o s₀)
-finished unit from s₀ s i o w h l =
-    let n : drop i unit ≡ [] = drop-of-length-le unit h in
-    let t : take o s ≡ body 0 (drop from unit) = rw (← (w .done), n) (sym (append-nil (take o s))) in
-    (rw (← t) (sym (length-take-le o s l)), rw (← t, ← (w .rest)) (sym (take-append-drop o s)))
+pub started : (unit : List ℕ) (from known : ℕ) (s : List ℕ) {k : ℕ} → from ≤ length unit → k ≡ max from known → Copied unit (knownBody unit from known) from s s from 0 k
+started unit from known s h e =
+    record { within = h; ahead = omega (arith, e, le-max-left from known); room = omega arith; same = refl; done = let q : max from known - from ≡ known - from = omega arith in rw (e, q); rest = refl }
 
 -- a run at a time
-module _ (unit : List ℕ) (from : ℕ) (s₀ s : List ℕ) (i o : ℕ) (w : Copied unit from s₀ s i o) where
-  pub pasted : (run : List ℕ) (i′ : ℕ) → i + length run ≤ i′ → i′ ≤ length unit → o + length run ≤ length s → body 0 (drop i unit) ≡ run ++ body 0 (drop i′ unit)
-      → Copied unit from s₀ (paste s o run (length run)) i′ (o + length run)
+module _ (unit all : List ℕ) (from : ℕ) (s₀ s : List ℕ) (i o k : ℕ) (w : Copied unit all from s₀ s i o k) where
+  pub pasted : (run : List ℕ) (i′ : ℕ) → i + length run ≤ i′ → i′ ≤ length unit → o + length run ≤ length s → knownBody unit i k ≡ run ++ body 0 (drop i′ unit)
+      → Copied unit all from s₀ (paste s o run (length run)) i′ (o + length run) i′
   pasted run i′ a b c e =
       let n = length run in
       record {
         within = b;
-        room = omega arith;
+        ahead = omega arith;
+        room = omega (arith, w .room);
         same = length-paste s o run n (omega arith) (omega arith) ∙ w .same;
-        done = rw (take-paste s o run n (omega arith) (omega arith), take-length run, append-assoc, ← e) (w .done);
+        done = rw (take-paste s o run n (omega arith) (omega arith), take-length run, append-assoc, known-here unit i′ i′ (omega arith), ← e) (w .done);
         rest = rw (drop-paste s o run n (omega arith) (omega arith), ← (drop-drop n o s), ← (drop-drop n o s₀)) (ap (drop n) (w .rest));
       }
 
   -- a run, its escape with it, is copied
-  pub went-on : (j x : ℕ) (s′ : List ℕ) → i ≤ j → NoEsc unit i j → Esc unit j → length unit ≤ length s₀
+  pub went-on : (j x : ℕ) (s′ : List ℕ) → k ≤ j → NoEsc unit k j → Esc unit j → length unit ≤ length s₀
       → x ≡ o + length (take (j + 2 - i) (drop i unit)) → s′ ≡ paste s o (take (j + 2 - i) (drop i unit)) (length (take (j + 2 - i) (drop i unit)))
-      → Copied unit from s₀ s′ (j + 3) x
+      → Copied unit all from s₀ s′ (j + 3) x (j + 3)
   went-on j x s′ a n p l e f =
       let g : j + 2 < length unit = esc-room p in
-      let k : length (take (j + 2 - i) (drop i unit)) ≡ j + 2 - i = rw (length-take, length-drop) (omega arith) in
+      let h : i ≤ k = w .ahead in
+      let q : length (take (j + 2 - i) (drop i unit)) ≡ j + 2 - i = rw (length-take, length-drop) (omega arith) in
       let r : length s ≡ length s₀ = w .same in
       let m : o + from ≤ i = w .room in
-      rw (e, f) (pasted (take (j + 2 - i) (drop i unit)) (j + 3) (omega arith) (omega arith) (omega arith) (run-escape unit j p i a n))
+      rw (e, f) (pasted (take (j + 2 - i) (drop i unit)) (j + 3) (omega arith) (omega arith) (omega arith) (known-run unit i k j h a n p))
 
   -- the last run is copied
-  pub ended : (j x : ℕ) (s′ : List ℕ) → j ≡ length unit → NoEsc unit i j → length unit ≤ length s₀
+  pub ended : (x : ℕ) (s′ : List ℕ) → NoEsc unit k (length unit) → length unit ≤ length s₀
       → x ≡ o + length (take (length unit - i) (drop i unit)) → s′ ≡ paste s o (take (length unit - i) (drop i unit)) (length (take (length unit - i) (drop i unit)))
-      → (x ≡ length (body 0 (drop from unit))) × (s′ ≡ body 0 (drop from unit) ++ drop x s₀)
-  ended j x s′ q n l e f =
+      → (x ≡ length all) × (s′ ≡ all ++ drop x s₀)
+  ended x s′ n l e f =
       let run = take (length unit - i) (drop i unit) in
-      let k : length (take (length unit - i) (drop i unit)) ≡ length unit - i = rw (length-take, length-drop) (omega arith) in
+      let q : length (take (length unit - i) (drop i unit)) ≡ length unit - i = rw (length-take, length-drop) (omega arith) in
       let r : length s ≡ length s₀ = w .same in
       let m : o + from ≤ i = w .room in
       let h : i ≤ length unit = w .within in
-      let v = pasted run (length unit) (omega arith) (omega arith) (omega arith) (run-end unit i h (rw q at n)) in
-      let z : length (paste s o run (length run)) ≡ length s = length-paste s o run (length run) (omega arith) (omega arith) in
-      rw (e, f) (finished unit from s₀ (paste s o run (length run)) (length unit) (o + length run) v (omega arith) (omega arith))
+      let z : drop (length unit) unit ≡ [] = drop-of-length-le unit {i = length unit} (omega arith) in
+      let v = pasted run (length unit) (omega arith) (omega arith) (omega arith) (known-end unit i k (w .ahead) n ∙ sym (ap (λ (b : List ℕ). run ++ body 0 b) z ∙ append-nil run)) in
+      let y : length (paste s o run (length run)) ≡ length s = length-paste s o run (length run) (omega arith) (omega arith) in
+      let t : take (o + length run) (paste s o run (length run)) ≡ all = sym (append-nil (take (o + length run) (paste s o run (length run))))
+      ∙ ap (λ (b : List ℕ). take (o + length run) (paste s o run (length run)) ++ b) (sym (known-past unit (length unit) (length unit) (omega arith) ∙ z)) ∙ v .done in
+      rw (e, f) (
+        sym (length-take-le (o + length run) (paste s o run (length run)) (omega arith)) ∙ ap length t,
+        sym (take-append-drop (o + length run) (paste s o run (length run))) ∙ rw (t, v .rest),
+      )

@@ -30,11 +30,15 @@ pub record Unescaped : Type 0 where
 abbrev pub startWith : List ℕ → List ℕ → List ℕ
 startWith s scratch = s ++ drop (length s) scratch
 
--- a unit's bytes from `from` on: 27 where the unit is over the limit, then 26 where scratch is shorter than the unit; refused, scratch is as it was
-unfoldable pub unescaped : List ℕ → ℕ → List ℕ → Unescaped
-unescaped unit from scratch =
+-- the bytes b of a unit go to scratch: 27 where the unit is over the limit, then 26 where scratch is shorter than the unit; refused, scratch is as it was
+unfoldable pub placed : List ℕ → List ℕ → List ℕ → Unescaped
+placed unit b scratch =
     pick (leb (length unit) limit)
     (pick (leb (length unit) (length scratch))
-    (record { answer = Body.Of (length (body 0 (drop from unit))); left = startWith (body 0 (drop from unit)) scratch })
+    (record { answer = Body.Of (length b); left = startWith b scratch })
     (record { answer = Body.Refused (refusal bufferTooShort (pos (length unit))); left = scratch }))
     (record { answer = Body.Refused (refusal tooLarge (pos 0)); left = scratch })
+
+-- the body of a unit's bytes from `from` on
+unfoldable pub unescaped : List ℕ → ℕ → List ℕ → Unescaped
+unescaped unit from scratch = placed unit (body 0 (drop from unit)) scratch

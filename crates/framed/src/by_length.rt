@@ -39,6 +39,7 @@ pub fn walk_framed_into(
         sequences,
         pictures,
         &recording[place..end],
+        0,
         scratch,
         numbers,
         signed,

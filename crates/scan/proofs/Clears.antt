@@ -1,5 +1,5 @@
 -- Laws of the block tests, and how the search goes on over a clear part.
-use mathlib.Core.Path.{_≡_, refl, sym, _∙_}
+use mathlib.Core.Path.{_≡_, refl, sym, ap, _∙_}
 use mathlib.Core.List.{List}
 use mathlib.Core.Bool.{Bool, true, false, _&&_, false≢true}
 use Prim.Native.Nat.{ℕ, zero, suc, _+_, _-_, _*_, _/_, _%_, _≤_, _<_}
@@ -8,11 +8,12 @@ use native.Mathlib.Nat.{add-zero, mod-eq-of-lt}
 use native.Mathlib.Decide.{decLt}
 use lib.Dec.{eqb, leb}
 use lib.Bits.{bitAnd, bitOr, bitXor, and-mask, and-le-l, and-le-r, or-add-and, xor-self}
-use borrow.Author.Tests.{eqb-true, leb-true}
+use borrow.Author.Tests.{eqb-true, leb-true, le-leb}
 use lib.ListN.{length, getD, drop, length-drop}
+use lib.Seq.{drop-drop}
 use Rattle.scan.specs.Scan.{hit, upto}
 use Rattle.scan.specs.Clear.{Spot, Clear, Low, Quiet}
-use Rattle.scan.proofs.Hits.{hit-drop, hit-room, upto-miss}
+use Rattle.scan.proofs.Hits.{hit-drop, hit-yes, hit-room, upto-miss, upto-le, upto-before}
 
 -- ---- the tests
 
@@ -106,6 +107,14 @@ low-byte zero h = refl
 low-byte (suc zero) h = refl
 low-byte (suc (suc c)) h = absurd (omega arith)
 
+-- 0 to 3
+low-bytes : (c : ℕ) → c ≤ 3 → bitXor (bitAnd c 252) 0 ≡ 0
+low-bytes zero h = refl
+low-bytes (suc zero) h = refl
+low-bytes (suc (suc zero)) h = refl
+low-bytes (suc (suc (suc zero))) h = refl
+low-bytes (suc (suc (suc (suc c)))) h = absurd (omega arith)
+
 -- a byte against itself
 same-byte : (c : ℕ) → c < 256 → bitXor (bitAnd c 255) c ≡ 0
 same-byte c h = rw (and-mask c 8, mod-eq-of-lt h) (xor-self c)
@@ -122,8 +131,15 @@ module _ (k m : ℕ) (s : List ℕ) (j : ℕ) (e : hit k m (drop j s) ≡ true) 
   spot-low : m ≤ 1 → Spot 254 0 s j
   spot-low g = record { one = four .0; two = four .1; three = low-byte (getD s (j + 2) 0) (omega (arith, four .3)); small = omega (arith, four .3) }
 
+  spot-three : m ≤ 3 → Spot 252 0 s j
+  spot-three g = record { one = four .0; two = four .1; three = low-bytes (getD s (j + 2) 0) (omega (arith, four .3)); small = omega (arith, four .3) }
+
   spot-one : k ≡ m → k ≤ 3 → Spot 255 k s j
   spot-one q g = let c : getD s (j + 2) 0 ≡ k = omega (arith, four .2, four .3) in record { one = four .0; two = four .1; three = rw c (same-byte k (omega arith)); small = omega (arith, four .3) }
+
+  -- what stands within bounds stands within wider ones
+  pub hit-wider : (k′ m′ : ℕ) → k′ ≤ k → m ≤ m′ → hit k′ m′ (drop j s) ≡ true
+  hit-wider k′ m′ a b = hit-yes k′ m′ s j h (four .0) (four .1) (omega (arith, four .2)) ∙ le-leb (getD s (j + 2) 0) m′ (omega (arith, four .3))
 
 -- no hit begins in a part, so the search goes on behind it
 upto-clear : (k m : ℕ) (s : List ℕ) (i n : ℕ) → i + n ≤ length s → ((j : ℕ) → i ≤ j → j < i + n → hit k m (drop j s) ≡ true → ⊥)
@@ -138,6 +154,13 @@ upto-clear k m s i (suc n) h c = upto-miss k m s i (omega arith) (miss (hit k m 
     rest : i + 1 + upto k m (drop (i + 1) s) ≡ i + 1 + n + upto k m (drop (i + 1 + n) s) → i + 1 + upto k m (drop (i + 1) s) ≡ i + suc n + upto k m (drop (i + suc n) s)
     rest e = let q : i + 1 + n ≡ i + suc n = omega arith in rw q at e
 
+-- none begins before the first
+pub none-hit : (k m : ℕ) (s : List ℕ) (from r : ℕ) → r ≡ from + upto k m (drop from s) → (j : ℕ) → from ≤ j → j < r → hit k m (drop j s) ≡ false
+none-hit k m s from r is j a b =
+    let q : from + (j - from) ≡ j = omega arith in
+    let e : drop (j - from) (drop from s) ≡ drop j s = drop-drop (j - from) from s ∙ ap (λ (n : ℕ). drop n s) q in
+    sym (ap (hit k m) e) ∙ upto-before k m (drop from s) (j - from) (omega arith)
+
 module _ (k m : ℕ) (s : List ℕ) (from r : ℕ) (a : from ≤ r) (b : r ≤ length s) where
   gone-on : ((j : ℕ) → from ≤ j → j < r → hit k m (drop j s) ≡ true → ⊥) → from + upto k m (drop from s) ≡ r + upto k m (drop r s)
   gone-on c =
@@ -147,5 +170,15 @@ module _ (k m : ℕ) (s : List ℕ) (from r : ℕ) (a : from ≤ r) (b : r ≤ l
   pub near-low : m ≤ 1 → Clear 254 0 s from r → from + upto k m (drop from s) ≡ r + upto k m (drop r s)
   near-low g c = gone-on (λ j x y e. c j x y (spot-low k m s j e g))
 
+  pub near-three : m ≤ 3 → Clear 252 0 s from r → from + upto k m (drop from s) ≡ r + upto k m (drop r s)
+  near-three g c = gone-on (λ j x y e. c j x y (spot-three k m s j e g))
+
   pub near-one : k ≡ m → k ≤ 3 → Clear 255 k s from r → from + upto k m (drop from s) ≡ r + upto k m (drop r s)
   near-one q g c = gone-on (λ j x y e. c j x y (spot-one k m s j e q g))
+
+-- a search goes on from where one within wider bounds stopped
+pub upto-wider : (k m k′ m′ : ℕ) (s : List ℕ) (from r : ℕ) → k′ ≤ k → m ≤ m′ → from ≤ length s → r ≡ from + upto k′ m′ (drop from s)
+    → from + upto k m (drop from s) ≡ r + upto k m (drop r s)
+upto-wider k m k′ m′ s from r a b h is =
+    let l : upto k′ m′ (drop from s) ≤ length s - from = rw length-drop at (upto-le k′ m′ (drop from s)) in
+    gone-on k m s from r (omega arith) (omega arith) (λ j x y e. false≢true (sym (none-hit k′ m′ s from r is j x y) ∙ hit-wider k m s j e k′ m′ a b))

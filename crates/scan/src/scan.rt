@@ -49,7 +49,7 @@ fn seek_plain(s: &[u8], from: usize, low: u8, high: u8) -> usize
     n
 }
 
-// A place from `from` on with no hit before it. For one byte up to 3, and for 0 to 1, it passes over blocks; the end mark of a short unit is near.
+// A place from `from` on with no hit before it. For bytes up to 3 it passes over blocks; an end mark may well be near, a byte by itself is not.
 fn near(s: &[u8], from: usize, low: u8, high: u8) -> usize
     requires { ⌜ from ≤ length (now s) ⌝ }
     ensures { λ r. ⌜ (r ≤ length (now (s .entry))) × (from + upto low high (drop from (now (s .entry))) ≡ r + upto low high (drop r (now (s .entry)))) ⌝ }
@@ -60,17 +60,17 @@ fn near(s: &[u8], from: usize, low: u8, high: u8) -> usize
     if low == high {
         return pass_over(s, from, 255, low);
     }
-    if 1 < high {
-        return from;
+    if high <= 1 {
+        return pass_soon(s, from, 254, 0);
     }
-    pass_soon(s, from, 254, 0)
+    pass_soon(s, from, 252, 0)
 }
 
 // The first place from `from` on where 00 00 and a byte from `low` to `high` stand, or the end; `from` itself where that lies behind the end.
 pub fn seek(s: &[u8], from: usize, low: u8, high: u8) -> usize
     ensures { λ r. ⌜ r ≡ from + upto low high (drop from (now (s .entry))) ⌝ }
 {
-    if s.len() < from {
+    if s.len() <= from {
         return from;
     }
     let i = near(s, from, low, high);

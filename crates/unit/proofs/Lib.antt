@@ -1,3 +1,4 @@
+pub mod Known
 pub mod Opened
 pub mod Cases
 pub mod Examples

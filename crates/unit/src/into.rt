@@ -8,7 +8,7 @@ use bits::refusals::NOT_ITS_HEAD;
 use bits::refusals::Refusal;
 use bits::refusals::refuse;
 use escape::escape::Body;
-use escape::escape::unescape;
+use escape::escape::unescape_known;
 use fields::step::End;
 use header::slice::clear_header;
 use header::slice::read_header_into;
@@ -30,7 +30,8 @@ ghost use Prim.Native.Nat.{ℕ, _≤_};
 ghost use lib.ListN.{length};
 ghost use Rattle.bits.specs.Refusals.{limit};
 ghost use Rattle.header.specs.Lead.{tableOf};
-ghost use Rattle.unit.specs.Unit.{inBody, sliceBits, prefixBits, sequenceBits, pictureBits, unitRead};
+ghost use Rattle.unit.specs.Unit.{sliceBits, prefixBits, sequenceBits, pictureBits};
+ghost use Rattle.unit.specs.Known.{inKnown, unitKnown};
 ghost use Rattle.unit.specs.Head.{bodyRead};
 ghost use Rattle.header.specs.Short.{HeaderWords, headerWords};
 ghost use Rattle.unit.specs.Into.{Lent, lentWords, blank, sliceShort, bodyShort, sequenceShort, pictureShort, Taken, ReadInto};
@@ -88,6 +89,7 @@ fn slice_into<'a>(
     sequences: &'a [u32; 224],
     pictures: &'a [u32; 2304],
     unit: &[u8],
+    known: usize,
     scratch: &mut [u8],
     kind: UnitKind,
     from: usize,
@@ -100,9 +102,9 @@ fn slice_into<'a>(
     w1: &mut [i32; 256],
 ) -> ShortAnswer
     requires { ⌜ length (now unit) ≤ limit ⌝ }
-    ensures { λ r. ⌜ ((b : List ℕ) → Taken (inBody (sliceBits (tableOf (now (sequences .entry)) (now (pictures .entry))) kind) (now (unit .entry)) from (now (scratch .entry))) r (now (scratch .exit)) (record { header = headerWords numbers signed l0 l1 marking w0 w1 .entry; base = b }) (record { header = headerWords numbers signed l0 l1 marking w0 w1 .exit; base = b })) ⌝ }
+    ensures { λ r. ⌜ ((b : List ℕ) → Taken (inKnown known (sliceBits (tableOf (now (sequences .entry)) (now (pictures .entry))) kind) (now (unit .entry)) from (now (scratch .entry))) r (now (scratch .exit)) (record { header = headerWords numbers signed l0 l1 marking w0 w1 .entry; base = b }) (record { header = headerWords numbers signed l0 l1 marking w0 w1 .exit; base = b })) ⌝ }
 {
-    match unescape(unit, from, scratch) {
+    match unescape_known(unit, from, known, scratch) {
         Body::Of(n) => slice_short(read_header_into(
             &scratch[..n],
             kind,
@@ -123,35 +125,36 @@ fn slice_into<'a>(
 // The body of a prefix unit, which goes to scratch.
 fn body_into(
     unit: &[u8],
+    known: usize,
     scratch: &mut [u8],
     kind: PrefixKind,
     base: &mut [u32; 198],
 ) -> ShortAnswer
     requires { ⌜ length (now unit) ≤ limit ⌝ }
-    ensures { λ r. ⌜ ((h : HeaderWords) → Taken (inBody (prefixBits kind) (now (unit .entry)) 4 (now (scratch .entry))) r (now (scratch .exit)) (record { header = h; base = now (base .entry) }) (record { header = h; base = now (base .exit) })) ⌝ }
+    ensures { λ r. ⌜ ((h : HeaderWords) → Taken (inKnown known (prefixBits kind) (now (unit .entry)) 4 (now (scratch .entry))) r (now (scratch .exit)) (record { header = h; base = now (base .entry) }) (record { header = h; base = now (base .exit) })) ⌝ }
 {
-    match unescape(unit, 4, scratch) {
+    match unescape_known(unit, 4, known, scratch) {
         Body::Of(n) => body_short(prefix_into(&scratch[..n], Cursor { at: 0 }, kind, base)),
         Body::Refused(r) => ShortAnswer::Refused(r),
     }
 }
 
 // The body of a parameter set, which goes to scratch.
-fn sequence_into(unit: &[u8], scratch: &mut [u8]) -> ShortAnswer
+fn sequence_into(unit: &[u8], known: usize, scratch: &mut [u8]) -> ShortAnswer
     requires { ⌜ length (now unit) ≤ limit ⌝ }
-    ensures { λ r. ⌜ ((w : Lent) → Taken (inBody sequenceBits (now (unit .entry)) 1 (now (scratch .entry))) r (now (scratch .exit)) w w) ⌝ }
+    ensures { λ r. ⌜ ((w : Lent) → Taken (inKnown known sequenceBits (now (unit .entry)) 1 (now (scratch .entry))) r (now (scratch .exit)) w w) ⌝ }
 {
-    match unescape(unit, 1, scratch) {
+    match unescape_known(unit, 1, known, scratch) {
         Body::Of(n) => sequence_short(sequence_set(&scratch[..n], Cursor { at: 0 })),
         Body::Refused(r) => ShortAnswer::Refused(r),
     }
 }
 
-fn picture_into(unit: &[u8], scratch: &mut [u8]) -> ShortAnswer
+fn picture_into(unit: &[u8], known: usize, scratch: &mut [u8]) -> ShortAnswer
     requires { ⌜ length (now unit) ≤ limit ⌝ }
-    ensures { λ r. ⌜ ((w : Lent) → Taken (inBody pictureBits (now (unit .entry)) 1 (now (scratch .entry))) r (now (scratch .exit)) w w) ⌝ }
+    ensures { λ r. ⌜ ((w : Lent) → Taken (inKnown known pictureBits (now (unit .entry)) 1 (now (scratch .entry))) r (now (scratch .exit)) w w) ⌝ }
 {
-    match unescape(unit, 1, scratch) {
+    match unescape_known(unit, 1, known, scratch) {
         Body::Of(n) => picture_short(picture_set(&scratch[..n], Cursor { at: 0 })),
         Body::Refused(r) => ShortAnswer::Refused(r),
     }
@@ -162,6 +165,7 @@ fn take<'a>(
     sequences: &'a [u32; 224],
     pictures: &'a [u32; 2304],
     unit: &[u8],
+    known: usize,
     scratch: &mut [u8],
     numbers: &mut [u32; 57],
     signed: &mut [i32; 7],
@@ -172,13 +176,14 @@ fn take<'a>(
     w1: &mut [i32; 256],
     base: &mut [u32; 198],
 ) -> ShortAnswer
-    ensures { λ r. ⌜ Taken (unitRead (tableOf (now (sequences .entry)) (now (pictures .entry))) (now (unit .entry)) (now (scratch .entry))) r (now (scratch .exit)) (lentWords numbers signed l0 l1 marking w0 w1 base .entry) (lentWords numbers signed l0 l1 marking w0 w1 base .exit) ⌝ }
+    ensures { λ r. ⌜ Taken (unitKnown known (tableOf (now (sequences .entry)) (now (pictures .entry))) (now (unit .entry)) (now (scratch .entry))) r (now (scratch .exit)) (lentWords numbers signed l0 l1 marking w0 w1 base .entry) (lentWords numbers signed l0 l1 marking w0 w1 base .exit) ⌝ }
 {
     match begin(unit) {
         Begun::Slice(kind, from) => slice_into(
             sequences,
             pictures,
             unit,
+            known,
             scratch,
             kind,
             from,
@@ -190,9 +195,9 @@ fn take<'a>(
             w0,
             w1,
         ),
-        Begun::Prefix(kind) => body_into(unit, scratch, kind, base),
-        Begun::SequenceSet => sequence_into(unit, scratch),
-        Begun::PictureSet => picture_into(unit, scratch),
+        Begun::Prefix(kind) => body_into(unit, known, scratch, kind, base),
+        Begun::SequenceSet => sequence_into(unit, known, scratch),
+        Begun::PictureSet => picture_into(unit, known, scratch),
         Begun::Other(id) => ShortAnswer::Other(id),
         Begun::Refused(r) => ShortAnswer::Refused(r),
     }
@@ -215,11 +220,15 @@ pub fn clear_words(
     clear_list(base);
 }
 
-// A unit whose head has been compared.
-fn read_into<'a>(
+// A unit, by the sets in a table's two arrays, for a caller who knows that no 00 00 03 begins before `known`; 0 where nothing is known. Bytes before it are taken as
+// they stand, and not searched. Until the body is known to fit, scratch is untouched; after that it starts with the body, whatever the answer. A slice's header goes to
+// the words of its fields and lists, over zeros where the counts said that a list was, and a prefix unit's list to `base`, over zeros; all other words stay as they
+// were. Beside a refusal all words are zeros.
+pub fn read_known_into<'a>(
     sequences: &'a [u32; 224],
     pictures: &'a [u32; 2304],
     unit: &[u8],
+    known: usize,
     scratch: &mut [u8],
     numbers: &mut [u32; 57],
     signed: &mut [i32; 7],
@@ -230,12 +239,13 @@ fn read_into<'a>(
     w1: &mut [i32; 256],
     base: &mut [u32; 198],
 ) -> ShortAnswer
-    ensures { λ r. ⌜ ReadInto (unitRead (tableOf (now (sequences .entry)) (now (pictures .entry))) (now (unit .entry)) (now (scratch .entry))) r (now (scratch .exit)) (lentWords numbers signed l0 l1 marking w0 w1 base .entry) (lentWords numbers signed l0 l1 marking w0 w1 base .exit) ⌝ }
+    ensures { λ r. ⌜ ReadInto (unitKnown known (tableOf (now (sequences .entry)) (now (pictures .entry))) (now (unit .entry)) (now (scratch .entry))) r (now (scratch .exit)) (lentWords numbers signed l0 l1 marking w0 w1 base .entry) (lentWords numbers signed l0 l1 marking w0 w1 base .exit) ⌝ }
 {
     match take(
         sequences,
         pictures,
         unit,
+        known,
         scratch,
         numbers,
         signed,
@@ -258,10 +268,7 @@ fn read_into<'a>(
     }
 }
 
-// The body of a unit, for whoever has its head (`head::head`); another's head is 34, before all else. It is read by the sets in a table's two arrays. Until the body
-// is known to fit, scratch is untouched; after that it starts with the body, whatever the answer. A slice's header goes to the words of its fields and lists, over
-// zeros where the counts said that a list was, and a prefix unit's list to `base`, over zeros; all other words stay as they were. Beside a refusal all words are
-// zeros.
+// The body of a unit, for whoever has its head (`head::head`); another's head is 34, before all else. Then as `read_known_into`, where nothing is known.
 pub fn read_body_into<'a>(
     head: UnitHead,
     sequences: &'a [u32; 224],
@@ -283,10 +290,11 @@ pub fn read_body_into<'a>(
         clear_words(numbers, signed, l0, l1, marking, w0, w1, base);
         return ShortAnswer::Refused(refuse(NOT_ITS_HEAD, 0));
     }
-    read_into(
+    read_known_into(
         sequences,
         pictures,
         unit,
+        0,
         scratch,
         numbers,
         signed,

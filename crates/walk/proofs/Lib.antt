@@ -4,6 +4,7 @@ pub mod Trims
 pub mod Nexts
 pub mod Chain
 pub mod Steps
+pub mod Seen
 pub mod Kept
 pub mod Once
 pub mod Within

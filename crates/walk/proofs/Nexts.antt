@@ -12,16 +12,20 @@ pub none-from : (s : List ℕ) (from at : ℕ) → at ≡ from + upto 1 (drop fr
 unfolding nextUnit firstFrom
 none-from s from at e h = rw (← e, le-ltb at (length s) h)
 
-module _ (s : List ℕ) (from at next : ℕ) (code : at ≡ from + upto 1 (drop from s)) (there : at < length s) (mark : next ≡ at + 3 + upto 0 (drop (at + 3) s)) where
-  pub marked : next < length s → Found.At (at + 3) (next - (at + 3)) next ≡ nextUnit s from
-  unfolding nextUnit firstFrom unitAt lenOf
+pub first-there : (s : List ℕ) (from at : ℕ) → at ≡ from + upto 1 (drop from s) → at < length s → unitAt s at ≡ nextUnit s from
+unfolding nextUnit firstFrom
+first-there s from at e h = rw (← e, lt-ltb at (length s) h)
+
+module _ (s : List ℕ) (at next : ℕ) (mark : next ≡ at + 3 + upto 0 (drop (at + 3) s)) where
+  pub marked : next < length s → Found.At (at + 3) (next - (at + 3)) next ≡ unitAt s at
+  unfolding unitAt lenOf
   marked g =
       let l : upto 0 (drop (at + 3) s) < length (drop (at + 3) s) = rw length-drop (omega arith) in
       let k : next - (at + 3) ≡ upto 0 (drop (at + 3) s) = omega arith in
-      rw (← code, lt-ltb at (length s) there, lt-ltb (upto 0 (drop (at + 3) s)) (length (drop (at + 3) s)) l, k, ← mark)
+      rw (lt-ltb (upto 0 (drop (at + 3) s)) (length (drop (at + 3) s)) l, k, ← mark)
 
-  pub open-ended : (len : ℕ) → length s ≤ next → len ≡ kept (drop (at + 3) s) → Found.At (at + 3) len next ≡ nextUnit s from
-  unfolding nextUnit firstFrom unitAt lenOf
+  pub open-ended : (len : ℕ) → length s ≤ next → len ≡ kept (drop (at + 3) s) → Found.At (at + 3) len next ≡ unitAt s at
+  unfolding unitAt lenOf
   open-ended len g k =
       let l : length (drop (at + 3) s) ≤ upto 0 (drop (at + 3) s) = rw length-drop (omega arith) in
-      rw (← code, lt-ltb at (length s) there, le-ltb (upto 0 (drop (at + 3) s)) (length (drop (at + 3) s)) l, ← mark, k)
+      rw (le-ltb (upto 0 (drop (at + 3) s)) (length (drop (at + 3) s)) l, ← mark, k)

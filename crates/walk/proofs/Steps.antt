@@ -112,3 +112,8 @@ module _ (R : Reading) (t : Table) (s scratch : List ℕ) where
       let m : p + l - p ≡ l = omega arith in
       let g : Turned R t (take l (drop p s)) scratch a left t′ b w = rw m at h in
       record { step = refl; answered = g .answered; left = g .left; table = g .table; words = g .words }
+
+-- a unit that two readings read alike
+pub turned-as : {R R′ : Reading} {t : Table} {unit c : List ℕ} {a : ShortAnswer} {left : List ℕ} {t′ : Table} {b w : Lent} → R t unit c ≡ R′ t unit c
+    → Turned R t unit c a left t′ b w → Turned R′ t unit c a left t′ b w
+turned-as e h = record { answered = rw (← e) (h .answered); left = rw (← e) (h .left); table = rw (← e) (h .table); words = rw (← e) (h .words) }

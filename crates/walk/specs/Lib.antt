@@ -1,4 +1,5 @@
 pub mod Walk
+pub mod Seen
 pub mod Walked
 pub mod WalkedInto
 pub mod Units

@@ -1,6 +1,7 @@
 // The walk over a recording: the first unit from a place on, read by the parameter table, into which a parameter set goes as it is met. Asked again from where each
 // answer says to go on, it meets every unit once.
 use crate::search::Found;
+use crate::search::next_seen;
 use crate::search::next_unit;
 use crate::turn::body_in_turn;
 use bits::refusals::LIMIT;
@@ -44,8 +45,8 @@ pub fn next_step(recording: &[u8], from: usize) -> Step
     }
 }
 
-// One step, by the sets in a table's two arrays, which a set that is read changes. Scratch and words are left as `body_in_turn` leaves them; where the step comes to no
-// unit, all are untouched.
+// One step, by the sets in a table's two arrays, which a set that is read changes. End mark and escapes are sought in one pass. Scratch and words are left as
+// `body_in_turn` leaves them; where the step comes to no unit, all are untouched.
 pub fn walk_into(
     sequences: &mut [u32; 224],
     pictures: &mut [u32; 2304],
@@ -63,10 +64,22 @@ pub fn walk_into(
 ) -> WalkedShort
     ensures { λ r. ⌜ WalkedInto (walked (tableOf (now (sequences .entry)) (now (pictures .entry))) (now (recording .entry)) from (now (scratch .entry))) r (now (scratch .exit)) (tableOf (now (sequences .exit)) (now (pictures .exit))) (lentWords numbers signed l0 l1 marking w0 w1 base .entry) (lentWords numbers signed l0 l1 marking w0 w1 base .exit) ⌝ }
 {
-    let step = next_step(recording, from);
-    let Step::Unit(place, length, _) = step else {
+    if LIMIT < recording.len() {
         return WalkedShort {
-            step,
+            step: Step::Refused(refuse(TOO_LARGE, 0)),
+            answer: ShortAnswer::Other(0),
+        };
+    }
+    let seen = next_seen(recording, from);
+    let found = seen.found;
+    let Found::At {
+        place,
+        length,
+        next,
+    } = found
+    else {
+        return WalkedShort {
+            step: Step::End,
             answer: ShortAnswer::Other(0),
         };
     };
@@ -75,6 +88,7 @@ pub fn walk_into(
         sequences,
         pictures,
         &recording[place..end],
+        seen.clear,
         scratch,
         numbers,
         signed,
@@ -85,5 +99,8 @@ pub fn walk_into(
         w1,
         base,
     );
-    WalkedShort { step, answer }
+    WalkedShort {
+        step: Step::Unit(place, length, next),
+        answer,
+    }
 }

@@ -1,52 +1,19 @@
-use mathlib.Core.Path.{sym, ap}
+use mathlib.Core.Path.{ap, _∙_}
 use mathlib.Core.List.{List}
-use Prim.Native.Nat.{ℕ, _<_}
-use lib.ListN.{length}
-use mir.Facts.{toZ-pos}
-use mir.Syntax.{w64}
-use native.Mathlib.Omega.{arith}
+use Prim.Native.Nat.{ℕ}
 use borrow.Author.Needs.{needs}
 use Rattle.escape.specs.declared.escape.Body.{Body}
 use Rattle.escape.specs.Body.{Unescaped}
-use Rattle.escape.proofs.Bodies.{too-large, too-short, done}
+use Rattle.escape.proofs.Bodies.{none-known, answered, leaves}
 use Rattle.escape.proofs.escape.unescape.Statement.{statement}
 use Rattle.escape.proofs.escape.unescape.Tie as tie
 
-abbrev answered : Unescaped → Body
-answered u = u .answer
-
-abbrev leaves : Unescaped → List ℕ
-leaves u = u .left
-
 returns : tie.Need-returns
 returns c =
-    let a = c .before .before .before .before .args in
-    let e = too-large (a .unit .now) (a .from) (a .scratch .now) (omega arith) in
-    (rw (c .refuse .ensures) (sym (ap answered e)), sym (ap leaves e))
-
-returns-2 : tie.Need-returns-2
-returns-2 c =
-    let a = c .before .before .before .before .before .args in
-    let e = too-short (a .unit .now) (a .from) (a .scratch .now) (omega arith) (omega arith) in
-    let small : length (a .unit .now) < 9223372036854775808 = omega arith in
-    (rw (c .refuse2 .ensures, toZ-pos w64 small) (sym (ap answered e)), sym (ap leaves e))
-
-returns-3 : tie.Need-returns-3
-returns-3 c =
-    let a = c .before .before .before .before .before .before .before .before .args in
-    let k = c .before .before .copy-kept in
-    let e = done (a .unit .now) (a .from) (a .scratch .now) (omega arith) (omega arith) in
-    (rw (k .ensures .0) (sym (ap answered e)), rw (k .ensures .1, k .ensures .0) (sym (ap leaves e)))
+    let a = c .before .before .before .before .before .before .args in
+    let k = c .before .before .unescape-known .ensures in
+    let e = none-known (a .unit .now) (a .from) (a .scratch .now) in
+    (k .0 ∙ ap answered e, k .1 ∙ ap leaves e)
 
 pub unescape-spec : {M : Type 1} → statement M
-unescape-spec =
-    tie.close
-    (tie.spec
-    (λ c κs. search needs)
-    returns
-    (λ c. search needs)
-    (λ c κs. search needs)
-    returns-2
-    (λ c κs. search needs)
-    (λ c. search needs)
-    returns-3)
+unescape-spec = tie.close (tie.spec (λ c κs. search needs) (λ c. search needs) returns)

@@ -2,6 +2,7 @@ use mathlib.Core.Path.{sym, _∙_}
 use borrow.Author.Tests.{not-true, not-false}
 use Rattle.header.specs.Lead.{tableOf}
 use Rattle.unit.proofs.Held.{refused-into}
+use Rattle.unit.proofs.Known.{none-known}
 use Rattle.unit.proofs.Pair.{body-own, body-other}
 use borrow.Author.Needs.{needs}
 use Rattle.unit.proofs.into.read_body_into.Statement.{statement}
@@ -17,7 +18,7 @@ returns-2 : tie.Need-returns-2
 returns-2 c =
     let a = c .before .before .before .before .before .before .before .before .before .before .before .before .before .before .before .before .args in
     let e = sym (c .before .before .before .before .before .before .before .before .before .before .before .before .before .is-head-of .ensures) ∙ not-false _ (c .before .before .before .before .before .before .before .before .before .before .before .before .if1 .left) in
-    rw (body-own (tableOf (a .sequences .now) (a .pictures .now)) (a .unit .now) (a .scratch .now) (a .head) e) (c .before .before .read-into .ensures)
+    rw (body-own (tableOf (a .sequences .now) (a .pictures .now)) (a .unit .now) (a .scratch .now) (a .head) e, ← none-known (a .unit .now) (a .scratch .now) (tableOf (a .sequences .now) (a .pictures .now))) (c .before .before .read-known-into .ensures)
 
 pub read-body-into-spec : {M : Type 1} → statement M
 read-body-into-spec =

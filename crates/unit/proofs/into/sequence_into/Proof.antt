@@ -8,20 +8,20 @@ use Rattle.unit.proofs.into.sequence_into.Statement.{statement}
 use Rattle.unit.proofs.into.sequence_into.Tie as tie
 
 slice-reshare-prefix-sequence-set : tie.Need-slice-reshare-prefix-sequence-set
-slice-reshare-prefix-sequence-set c = written _ _ _ _ (c .before .before .before .before .before .before .before .before .before .pre) (c .before .before .before .before .before .unescape .ensures .1) (sym (c .before .n .given .1) ∙ c .before .before .before .before .before .unescape .ensures .0)
+slice-reshare-prefix-sequence-set c = written _ _ _ _ _ (c .before .before .before .before .before .before .before .before .before .pre) (c .before .before .before .before .before .unescape-known .ensures .1) (sym (c .before .n .given .1) ∙ c .before .before .before .before .before .unescape-known .ensures .0)
 
 slice-aggregate-sequence-set : tie.Need-slice-aggregate-sequence-set
-slice-aggregate-sequence-set c = sym (length-take-le _ _ (written _ _ _ _ (c .before .before .before .before .before .before .before .before .before .before .pre) (c .before .before .before .before .before .before .unescape .ensures .1) (sym (c .before .before .n .given .1) ∙ c .before .before .before .before .before .before .unescape .ensures .0)))
+slice-aggregate-sequence-set c = sym (length-take-le _ _ (written _ _ _ _ _ (c .before .before .before .before .before .before .before .before .before .before .pre) (c .before .before .before .before .before .before .unescape-known .ensures .1) (sym (c .before .before .n .given .1) ∙ c .before .before .before .before .before .before .unescape-known .ensures .0)))
 
 returns : tie.Need-returns
 returns c =
-    let u = c .before .before .before .before .before .before .before .before .unescape .ensures in
-    sequence-taken _ (opened _ _ _ _ (c .before .before .before .before .before .before .before .before .before .before .before .before .pre) (u .1) (sym (c .before .before .before .before .n .given .1) ∙ u .0) sequenceBits) (c .before .sequence-set .result) (c .before .sequence-set .ensures) (c .sequence-short .ensures)
+    let u = c .before .before .before .before .before .before .before .before .unescape-known .ensures in
+    sequence-taken _ (opened _ _ _ _ _ (c .before .before .before .before .before .before .before .before .before .before .before .before .pre) (u .1) (sym (c .before .before .before .before .n .given .1) ∙ u .0) sequenceBits) (c .before .sequence-set .result) (c .before .sequence-set .ensures) (c .sequence-short .ensures)
 
 returns-2 : tie.Need-returns-2
 returns-2 c =
-    let u = c .before .before .before .before .before .unescape .ensures in
-    λ w. none-taken _ (closed _ _ _ _ (c .before .before .before .before .before .before .before .before .before .pre) (u .1) (sym (c .before .r .given .1) ∙ u .0) sequenceBits) _ _
+    let u = c .before .before .before .before .before .unescape-known .ensures in
+    λ w. none-taken _ (closed _ _ _ _ _ (c .before .before .before .before .before .before .before .before .before .pre) (u .1) (sym (c .before .r .given .1) ∙ u .0) sequenceBits) _ _
 
 pub sequence-into-spec : {M : Type 1} → statement M
 sequence-into-spec =

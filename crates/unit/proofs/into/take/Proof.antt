@@ -1,5 +1,5 @@
 use mathlib.Core.Path.{refl, sym, _∙_}
-use Rattle.unit.specs.Unit.{unitRead}
+use Rattle.unit.specs.Known.{unitKnown}
 use Rattle.unit.proofs.Cases.{begun-small}
 use Rattle.unit.proofs.Held.{other-taken, none-taken}
 use borrow.Author.Needs.{needs}
@@ -19,29 +19,29 @@ picture-into-requires : tie.Need-picture-into-requires
 picture-into-requires c κs = begun-small _ _ (sym (c .before .enum-told2 .given .1) ∙ c .before .before .before .begin .ensures) refl
 
 returns : tie.Need-returns
-unfolding unitRead
+unfolding unitKnown
 returns c = rw (← c .before .before .before .before .before .before .before .before .before .before .before .before .before .before .begin .ensures, c .before .before .before .before .before .before .before .before .before .before .before .before .kind .given .1) (c .before .before .slice-into .ensures (c .before .before .before .before .before .before .before .before .before .before .before .before .before .before .before .before .before .args .base .now))
 
 returns-2 : tie.Need-returns-2
-unfolding unitRead
+unfolding unitKnown
 returns-2 c =
     let a = c .before .before .before .before .before .before .before .before .before .before .before .args in
     rw (← c .before .before .before .before .before .before .before .before .begin .ensures, c .before .before .before .before .before .before .kind2 .given .1) (c .before .before .body-into .ensures (record { numbers = a .numbers .now; signed = a .signed .now; l0 = a .l0 .now; l1 = a .l1 .now; marking = a .marking .now; w0 = a .w0 .now; w1 = a .w1 .now }))
 
 returns-3 : tie.Need-returns-3
-unfolding unitRead
+unfolding unitKnown
 returns-3 c = rw (← c .before .before .before .before .before .before .begin .ensures, c .before .before .before .before .enum-told .given .1) (c .before .before .sequence-into .ensures _)
 
 returns-4 : tie.Need-returns-4
-unfolding unitRead
+unfolding unitKnown
 returns-4 c = rw (← c .before .before .before .before .before .before .begin .ensures, c .before .before .before .before .enum-told2 .given .1) (c .before .before .picture-into .ensures _)
 
 returns-5 : tie.Need-returns-5
-unfolding unitRead
+unfolding unitKnown
 returns-5 c = rw (← c .before .before .before .begin .ensures, c .before .id .given .1) (other-taken _ refl _)
 
 returns-6 : tie.Need-returns-6
-unfolding unitRead
+unfolding unitKnown
 returns-6 c = rw (← c .before .before .before .begin .ensures, c .before .r .given .1) (none-taken _ refl _ _)
 
 pub take-spec : {M : Type 1} → statement M

@@ -1,8 +1,8 @@
 use Rattle.unit.specs.declared.into.ShortAnswer.{ShortAnswer}
 use Rattle.unit.proofs.Held.{kept, cleared}
 use borrow.Author.Needs.{needs}
-use Rattle.unit.proofs.into.read_into.Statement.{statement}
-use Rattle.unit.proofs.into.read_into.Tie as tie
+use Rattle.unit.proofs.into.read_known_into.Statement.{statement}
+use Rattle.unit.proofs.into.read_known_into.Tie as tie
 
 returns : tie.Need-returns
 returns c = kept (c .before .before .before .before .before .take .ensures) (ShortAnswer.Slice _) (c .before .n .given .1) (λ h. h)
@@ -22,8 +22,8 @@ returns-5 c = kept (c .before .before .before .before .before .take .ensures) (S
 returns-6 : tie.Need-returns-6
 returns-6 c = cleared (c .before .before .before .before .before .before .before .before .before .before .before .before .before .before .take .ensures) _ (c .before .before .before .before .before .before .before .before .before .before .r .given .1) (c .clear-words .ensures)
 
-pub read-into-spec : {M : Type 1} → statement M
-read-into-spec =
+pub read-known-into-spec : {M : Type 1} → statement M
+read-known-into-spec =
     tie.close
     (tie.spec
     (λ c κs. search needs)
