@@ -16,7 +16,7 @@ extern "C" {
 #endif
 
 /* The number of this layout: what tuz_layout() answers in an archive made from the same sources. */
-#define TUZ_LAYOUT 11
+#define TUZ_LAYOUT 12
 
 /* The bytes of a buffer that holds every slice header: tuz_write_header never answers 26 to it. */
 #define TUZ_HEADER_BYTES 6144
@@ -217,29 +217,11 @@ typedef struct {
   size_t refused_before;
 } tuz_Exposure;
 
-/* A slice, as far as pictures and exposures go by it, under the standard's names; a field that is absent is zero. */
+/* An exposure that is closed, or none: then `there` is false and every field zero. */
 typedef struct {
-  /* where its unit begins */
-  size_t place;
-  /* QP, by its own picture set */
-  int64_t qp;
-  uint32_t nal_ref_idc;
-  bool idr_pic_flag;
-  uint32_t frame_num;
-  uint32_t pic_parameter_set_id;
-  bool field_pic_flag;
-  bool bottom_field_flag;
-  /* of its sequence set */
-  uint32_t pic_order_cnt_type;
-  uint32_t pic_order_cnt_lsb;
-  int32_t delta_pic_order_cnt_bottom;
-  /* delta_pic_order_cnt[0] and [1] */
-  int32_t delta_pic_order_cnt_0;
-  int32_t delta_pic_order_cnt_1;
-  uint32_t idr_pic_id;
-  /* of its sequence set: frame_num counts modulo 2 to its power */
-  uint32_t log2_max_frame_num;
-} tuz_Slice;
+  bool there;
+  tuz_Exposure exposure;
+} tuz_ClosedOut;
 
 typedef struct {
   size_t slices;
@@ -249,28 +231,6 @@ typedef struct {
   size_t views;
   size_t others;
 } tuz_Counts;
-
-typedef struct {
-  /* a picture has begun: its exposure so far, and its last slice */
-  bool begun;
-  tuz_Exposure exposure;
-  tuz_Slice last;
-  /* refused units behind its first slice, or from the start on */
-  size_t refused_since;
-  tuz_Counts counts;
-} tuz_State;
-
-/* An exposure that is closed, or none: then `there` is false and every field zero. */
-typedef struct {
-  bool there;
-  tuz_Exposure exposure;
-} tuz_ClosedOut;
-
-/* The state after a unit, and the exposure that the unit closed. */
-typedef struct {
-  tuz_State state;
-  tuz_ClosedOut closed;
-} tuz_TakenOut;
 
 /* The three extension bytes; where they are not there, they are unused. Types 1 and 5 make no use of them. */
 typedef struct {
@@ -307,11 +267,8 @@ _Static_assert(sizeof(tuz_SvcExtensionOut) == 9, "tuz_SvcExtensionOut");
 _Static_assert(sizeof(tuz_MvcExtensionOut) == 8, "tuz_MvcExtensionOut");
 _Static_assert(sizeof(tuz_ExtensionOut) == 18, "tuz_ExtensionOut");
 _Static_assert(sizeof(tuz_Exposure) == 56, "tuz_Exposure");
-_Static_assert(sizeof(tuz_Slice) == 64, "tuz_Slice");
-_Static_assert(sizeof(tuz_Counts) == 48, "tuz_Counts");
-_Static_assert(sizeof(tuz_State) == 184, "tuz_State");
 _Static_assert(sizeof(tuz_ClosedOut) == 64, "tuz_ClosedOut");
-_Static_assert(sizeof(tuz_TakenOut) == 248, "tuz_TakenOut");
+_Static_assert(sizeof(tuz_Counts) == 48, "tuz_Counts");
 _Static_assert(sizeof(tuz_ExtensionGiven) == 4, "tuz_ExtensionGiven");
 _Static_assert(sizeof(tuz_WroteOut) == 24, "tuz_WroteOut");
 #endif
@@ -450,14 +407,17 @@ uint32_t tuz_unit_type(uint8_t id);
 /* The three bytes of an extension. */
 void tuz_extension(tuz_ExtensionOut *result, uint8_t b1, uint8_t b2, uint8_t b3);
 
-/* No unit was taken. */
-void tuz_exposures_start(tuz_State *result);
+/* The state where no unit was taken, in words that the host lends: any words hold a state, and what these hold before is not looked at. */
+void tuz_exposures_start(size_t state_sizes[11], uint32_t state_numbers[13], int64_t state_levels[7]);
 
-/* A unit is taken, by the sets in force in a table's two arrays: its place, its head's type and nal_ref_idc, `answer` of its ReadOut, and the words of a slice's fields. */
-void tuz_take(tuz_TakenOut *result, tuz_State state, const uint32_t sequences[224], const uint32_t pictures[2304], size_t place, uint8_t nal_unit_type, uint8_t nal_ref_idc, uint32_t answer, const uint32_t numbers[57], const int32_t signed_numbers[7]);
+/* A unit is taken, by the sets in force in a table's two arrays: its place, its head's type and nal_ref_idc, `answer` of its ReadOut, and the words of a slice's fields. The state's words are changed where they stand; the answer is the exposure that the unit closed. */
+void tuz_take(tuz_ClosedOut *result, size_t state_sizes[11], uint32_t state_numbers[13], int64_t state_levels[7], const uint32_t sequences[224], const uint32_t pictures[2304], size_t place, uint8_t nal_unit_type, uint8_t nal_ref_idc, uint32_t answer, const uint32_t numbers[57], const int32_t signed_numbers[7]);
 
 /* The last exposure: nothing more is taken. */
-void tuz_finish(tuz_ClosedOut *result, tuz_State state);
+void tuz_finish(tuz_ClosedOut *result, const size_t state_sizes[11], const uint32_t state_numbers[13], const int64_t state_levels[7]);
+
+/* How many units of each kind were taken. */
+void tuz_counts(tuz_Counts *result, const size_t state_sizes[11]);
 
 /* The body of a unit, for whoever has its head (`tuz_head`), by the sets in a table's two arrays; another's head is 34. Scratch needs as many bytes as the unit has. A slice's header goes to `numbers` and `signed` (fields) and to l0, l1, marking, w0 and w1 (lists), a prefix unit's list to `base`; all other words stay as they were, so words that were zeros behind their counts stay so. Beside a refusal all words are zeros. */
 void tuz_body(tuz_ReadOut *result, tuz_UnitHead head, const uint32_t sequences[224], const uint32_t pictures[2304], const uint8_t *unit, size_t unit_len, uint8_t *scratch, size_t scratch_len, uint32_t numbers[57], int32_t signed_numbers[7], uint32_t l0[198], uint32_t l1[198], uint32_t marking[198], int32_t w0[256], int32_t w1[256], uint32_t base[198]);

@@ -155,7 +155,7 @@ def functions(records):
     for path in sorted((ROOT / "crates/exports/src").glob("*.rt")):
         for told, body in marked(path, "#[no_mangle]"):
             name, rest = re.match(r'pub extern "C" fn (\w+)(.*)', body).groups()
-            given, result = re.match(r".*?\((.*)\) -> (\w+)", rest).groups()
+            given, result = re.match(r".*?\((.*)\)(?: -> (\w+))?", re.split(r" {4}(?:ensures|requires) ", rest)[0]).groups()
             if name == BENCH:
                 continue
             arguments = re.findall(r"(\w+): ((?:&'a |&)?(?:mut )?(?:\[[^\]]+\]|\w+))", given)
@@ -163,10 +163,11 @@ def functions(records):
                 base = re.sub(r"^&(?:'a )?(?:mut )?", "", kind)
                 if not base.startswith("["):
                     records.needed(base, found)
-            records.needed(result, found)
             words = [argument(records, *a) for a in arguments]
-            back = records.c(result)
-            if records.size(result)[0] > 16:
+            if result:
+                records.needed(result, found)
+            back = records.c(result) if result else "void"
+            if result and records.size(result)[0] > 16:
                 words, back = [f"tuz_{result} *result", *words], "void"
             text += f"\n{comment(told)}{back} {name}({', '.join(words) or 'void'});\n"
     return found, text

@@ -190,7 +190,7 @@ pub fn taken<'a>(table: &'a Table, units: &'a [&'a [u8]]) -> impl FnMut() -> (Fo
             raw::take(&mut taken, table, place, unit[0], &out, words);
             closed += u64::from(taken.closed.there);
         }
-        (found, closed + u64::from(raw::finish(taken.state).there))
+        (found, closed + u64::from(raw::finish(&taken.state).there))
     }
 }
 

@@ -5,7 +5,7 @@ use std::{env, fs};
 
 /// The crate that exports, and the files whose `#[repr(C)]` structs cross the boundary, or are made of the words that do (`Prefix` stands among them and is neither).
 const EXPORTS: &str = "exports";
-const RECORDS: [&str; 21] = [
+const RECORDS: [&str; 19] = [
     "table/src/sets.rt",
     "table/src/table.rt",
     "syntax/src/marks.rt",
@@ -22,10 +22,8 @@ const RECORDS: [&str; 21] = [
     "writer/src/given.rt",
     "exports/src/writes.rt",
     "exports/src/starts.rt",
-    "exposures/src/slice.rt",
     "exposures/src/exposure.rt",
     "exposures/src/counts.rt",
-    "exposures/src/take.rt",
     "exports/src/takes.rt",
 ];
 

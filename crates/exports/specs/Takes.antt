@@ -6,14 +6,12 @@ use lib.IntN.{ℤ, pos}
 use Rattle.table.specs.declared.table.Table.{Table}
 use Rattle.unit.specs.Into.{longAnswer}
 use Rattle.exposures.specs.declared.exposure.Exposure.{Exposure}
-use Rattle.exposures.specs.declared.take.State.{State}
 use Rattle.exposures.specs.declared.take.Closed.{Closed}
-use Rattle.exposures.specs.declared.take.Taken.{Taken}
 use Rattle.exposures.specs.declared.slice.Item.{Item}
-use Rattle.exposures.specs.Take.{takeOf}
+use Rattle.exposures.specs.Take.{Taken, takeOf}
+use Rattle.exposures.specs.Words.{Words, stateIn, wordsOf}
 use Rattle.stacking.specs.Item.{itemOf, heldIn}
 use Rattle.exports.specs.declared.takes.ClosedOut.{ClosedOut}
-use Rattle.exports.specs.declared.takes.TakenOut.{TakenOut}
 use Rattle.exports.specs.Listings.{heard}
 
 abbrev pub noExposure : Exposure
@@ -38,8 +36,12 @@ closedOut (Closed.Exposure e) = record { there = true; exposure = e }
 abbrev pub toldItem : Table → ℕ → ℕ → ℕ → ℕ → List ℕ → List ℤ → Item
 toldItem t place type ref answer numbers signed = itemOf t place type ref (longAnswer (heard answer 0 (pos 0) false 0)) (heldIn numbers signed)
 
--- the state after it, and what it closes
-unfoldable pub takenOut : State → Table → ℕ → ℕ → ℕ → ℕ → List ℕ → List ℤ → TakenOut
-takenOut state t place type ref answer numbers signed =
-    let r : Taken = takeOf state (toldItem t place type ref answer numbers signed) in
-    record { state = r .state; closed = closedOut (r .closed) }
+-- what it closes, and the words that it leaves of the state's
+pub record TakenOut : Type 0 where
+  pub closed : ClosedOut
+  pub left : Words
+
+unfoldable pub takenOut : Words → Table → ℕ → ℕ → ℕ → ℕ → List ℕ → List ℤ → TakenOut
+takenOut w t place type ref answer numbers signed =
+    let r : Taken = takeOf (stateIn w) (toldItem t place type ref answer numbers signed) in
+    record { closed = closedOut (r .closed); left = wordsOf (r .state) }

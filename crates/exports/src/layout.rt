@@ -3,7 +3,7 @@ ghost use mathlib.Core.Path.{_≡_};
 ghost use Rattle.exports.specs.Layout.{layout};
 
 // One more with every change of an exported function, struct or array.
-const LAYOUT: u32 = 11;
+const LAYOUT: u32 = 12;
 
 #[no_mangle]
 pub extern "C" fn tuz_layout() -> u32

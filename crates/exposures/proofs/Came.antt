@@ -11,12 +11,10 @@ use Rattle.exposures.specs.declared.slice.Kind.{Kind}
 use Rattle.exposures.specs.declared.slice.Item.{Item}
 use Rattle.exposures.specs.declared.counts.Counts.{Counts}
 use Rattle.exposures.specs.declared.exposure.Exposure.{Exposure}
-use Rattle.exposures.specs.declared.take.State.{State}
-use Rattle.exposures.specs.declared.take.Taken.{Taken}
 use Rattle.exposures.specs.Compare.{frames, differ}
 use Rattle.exposures.specs.Exposure.{held}
 use Rattle.exposures.specs.Pictures.{slicesOf, Picture, restOf, lastOf, lastIn, refusedIn}
-use Rattle.exposures.specs.Take.{noCounts, start, counted, opened, sliceTaken, unitTaken, takeOf, said, run, stateAfter}
+use Rattle.exposures.specs.Take.{State, Taken, noCounts, start, counted, opened, sliceTaken, unitTaken, takeOf, said, run, stateAfter}
 use Rattle.exposures.proofs.Lists.{slices-append, last-append}
 use Rattle.exposures.proofs.Runs.{alone, grown, during, waiting, opened-is, rest-unit, refused-unit, alike, new, passed}
 

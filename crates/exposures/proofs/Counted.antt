@@ -10,11 +10,10 @@ use Rattle.exposures.specs.declared.slice.Slice.{Slice}
 use Rattle.exposures.specs.declared.slice.Kind.{Kind}
 use Rattle.exposures.specs.declared.slice.Item.{Item}
 use Rattle.exposures.specs.declared.counts.Counts.{Counts}
-use Rattle.exposures.specs.declared.take.State.{State}
 use Rattle.exposures.specs.Compare.{differ}
 use Rattle.exposures.specs.Exposure.{held}
 use Rattle.exposures.specs.Pictures.{slicesOf, those, countsOf}
-use Rattle.exposures.specs.Take.{start, counted, opened, sliceTaken, unitTaken, takeOf, stateAfter}
+use Rattle.exposures.specs.Take.{State, start, counted, opened, sliceTaken, unitTaken, takeOf, stateAfter}
 use Rattle.exposures.proofs.Lists.{slices-append, those-append, held-suc, held-is}
 
 -- a unit counts, whatever it does to pictures

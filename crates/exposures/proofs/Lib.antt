@@ -4,6 +4,7 @@ pub mod Runs
 pub mod Grouped
 pub mod Levels
 pub mod Counted
+pub mod Laid
 pub mod Came
 pub mod Torn
 pub mod Moved

@@ -12,13 +12,11 @@ use Rattle.exposures.specs.declared.slice.Kind.{Kind}
 use Rattle.exposures.specs.declared.slice.Item.{Item}
 use Rattle.exposures.specs.declared.counts.Counts.{Counts}
 use Rattle.exposures.specs.declared.exposure.Exposure.{Exposure}
-use Rattle.exposures.specs.declared.take.State.{State}
 use Rattle.exposures.specs.declared.take.Closed.{Closed}
-use Rattle.exposures.specs.declared.take.Taken.{Taken}
 use Rattle.exposures.specs.Compare.{differ, gapAfter}
 use Rattle.exposures.specs.Exposure.{held, lesser, greater, plus, over, exposureOf, oneSlice, more}
 use Rattle.exposures.specs.Pictures.{lastOf, slicesOf, same, those, Picture, restOf, lastIn, Cut, joined, cut, refusedIn, gapTo, exposuresFrom, exposures}
-use Rattle.exposures.specs.Take.{noSlice, noCounts, start, counted, still, opened, sliceTaken, refusedWith, unitTaken, takeOf, finishOf, said, run}
+use Rattle.exposures.specs.Take.{State, Taken, noSlice, noCounts, start, counted, still, opened, sliceTaken, refusedWith, unitTaken, takeOf, finishOf, said, run}
 use Rattle.exposures.proofs.Lists.{slices-append, those-append, over-append, last-append, held-suc}
 
 -- ---- a picture so far

@@ -12,12 +12,11 @@ use Rattle.exposures.specs.declared.slice.Slice.{Slice}
 use Rattle.exposures.specs.declared.slice.Item.{Item}
 use Rattle.exposures.specs.declared.counts.Counts.{Counts}
 use Rattle.exposures.specs.declared.exposure.Exposure.{Exposure}
-use Rattle.exposures.specs.declared.take.State.{State}
 use Rattle.exposures.specs.declared.take.Closed.{Closed}
 use Rattle.exposures.specs.Compare.{differ, gapAfter}
 use Rattle.exposures.specs.Exposure.{exposureOf}
 use Rattle.exposures.specs.Pictures.{slicesOf, Picture, restOf, lastOf, lastIn, cut, refusedIn, gapTo, exposuresFrom, exposures}
-use Rattle.exposures.specs.Take.{start, finishOf, said, run, stateAfter}
+use Rattle.exposures.specs.Take.{State, start, finishOf, said, run, stateAfter}
 use Rattle.exposures.specs.Torn.{joins, goesOn, begunIn, noRefused, own}
 use Rattle.exposures.proofs.Grouped.{slicesInAll, pictures-partition}
 use Rattle.exposures.proofs.Runs.{grown, during, onto, waiting, along, from-start, taken-exposures}

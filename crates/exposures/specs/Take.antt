@@ -9,12 +9,24 @@ use Rattle.exposures.specs.declared.slice.Kind.{Kind}
 use Rattle.exposures.specs.declared.slice.Item.{Item}
 use Rattle.exposures.specs.declared.counts.Counts.{Counts}
 use Rattle.exposures.specs.declared.exposure.Exposure.{Exposure}
-use Rattle.exposures.specs.declared.take.State.{State}
 use Rattle.exposures.specs.declared.take.Closed.{Closed}
-use Rattle.exposures.specs.declared.take.Taken.{Taken}
 use Rattle.exposures.specs.Compare.{differ, gapAfter}
 use Rattle.exposures.specs.Exposure.{held, oneSlice, more}
 use Rattle.exposures.specs.Pictures.{same}
+
+pub record State : Type 0 where
+  -- a picture has begun: its exposure so far, and its last slice
+  pub begun : Bool
+  pub exposure : Exposure
+  pub last : Slice
+  -- refused units behind its first slice, or from the start on
+  pub «refused_since» : ℕ
+  pub counts : Counts
+
+-- the state after a unit, and the exposure that the unit closed
+pub record Taken : Type 0 where
+  pub state : State
+  pub closed : Closed
 
 -- ---- at the start
 

@@ -17,7 +17,7 @@ fn flags(a: bool, b: bool) -> bool
     if a { !b } else { b }
 }
 
-fn signed(a: i32, b: i32) -> bool
+fn signed(a: i64, b: i64) -> bool
     ensures { λ r. ⌜ r ≡ apartZ a b ⌝ }
 {
     if a <= b { !(b <= a) } else { true }

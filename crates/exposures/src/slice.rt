@@ -1,7 +1,6 @@
 // What is taken of a recording, a unit each.
 
 // A slice, as far as pictures and exposures go by it, under the standard's names; a field that is absent is zero.
-#[repr(C)]
 pub struct Slice {
     // where its unit begins
     pub place: usize,
@@ -16,10 +15,10 @@ pub struct Slice {
     // of its sequence set
     pub pic_order_cnt_type: u32,
     pub pic_order_cnt_lsb: u32,
-    pub delta_pic_order_cnt_bottom: i32,
+    pub delta_pic_order_cnt_bottom: i64,
     // delta_pic_order_cnt[0] and [1]
-    pub delta_pic_order_cnt_0: i32,
-    pub delta_pic_order_cnt_1: i32,
+    pub delta_pic_order_cnt_0: i64,
+    pub delta_pic_order_cnt_1: i64,
     pub idr_pic_id: u32,
     // of its sequence set: frame_num counts modulo 2 to its power
     pub log2_max_frame_num: u32,

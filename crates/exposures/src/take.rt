@@ -11,32 +11,17 @@ use crate::exposure::one_more;
 use crate::slice::Item;
 use crate::slice::Kind;
 use crate::slice::Slice;
-ghost use mathlib.Core.Bool.{false};
+use crate::words::exposure_in;
+use crate::words::last_in;
+use crate::words::lay;
 ghost use mathlib.Core.Path.{_≡_};
-ghost use Rattle.exposures.specs.Exposure.{oneSlice};
-ghost use Rattle.exposures.specs.Take.{noSlice, start, opened, still, sliceTaken, refusedWith, unitTaken, takeOf, finishOf};
-
-#[repr(C)]
-pub struct State {
-    // a picture has begun: its exposure so far, and its last slice
-    pub begun: bool,
-    pub exposure: Exposure,
-    pub last: Slice,
-    // refused units behind its first slice, or from the start on
-    pub refused_since: usize,
-    pub counts: Counts,
-}
+ghost use Rattle.exposures.specs.Take.{noSlice, noCounts, start, sliceTaken, refusedWith, unitTaken, takeOf, finishOf};
+ghost use Rattle.exposures.specs.Words.{lent, stateIn, wordsOf, countsIn};
 
 // An exposure to which nothing more comes, or none.
 pub enum Closed {
     Nothing,
     Exposure(Exposure),
-}
-
-// The state after a unit, and the exposure that the unit closed.
-pub struct Taken {
-    pub state: State,
-    pub closed: Closed,
 }
 
 // What stands for the last slice where none was taken.
@@ -62,73 +47,69 @@ fn no_slice() -> Slice
     }
 }
 
-// Nothing was taken.
-pub fn start() -> State
-    ensures { λ r. ⌜ r ≡ start ⌝ }
+fn no_counts() -> Counts
+    ensures { λ r. ⌜ r ≡ noCounts ⌝ }
+{
+    Counts {
+        slices: 0,
+        redundant: 0,
+        refused: 0,
+        prefixes: 0,
+        views: 0,
+        others: 0,
+    }
+}
+
+// The state where nothing was taken.
+pub fn start(sizes: &mut [usize; 11], numbers: &mut [u32; 13], levels: &mut [i64; 7])
+    ensures { λ _. ⌜ lent sizes numbers levels .exit ≡ wordsOf start ⌝ }
 {
     let last = no_slice();
-    State {
-        begun: false,
-        exposure: first_slice(last, false, 0),
-        last,
-        refused_since: 0,
-        counts: Counts {
-            slices: 0,
-            redundant: 0,
-            refused: 0,
-            prefixes: 0,
-            views: 0,
-            others: 0,
-        },
+    let e = first_slice(last, false, 0);
+    lay(false, e, last, 0, no_counts(), sizes, numbers, levels);
+}
+
+// How many units of each kind were taken.
+pub fn counts(sizes: &[usize; 11]) -> Counts
+    ensures { λ r. ⌜ r ≡ countsIn (now (sizes .entry)) ⌝ }
+{
+    Counts {
+        slices: sizes[5],
+        redundant: sizes[6],
+        refused: sizes[7],
+        prefixes: sizes[8],
+        views: sizes[9],
+        others: sizes[10],
     }
 }
 
-// A picture begins.
-fn open(s: Slice, gap: bool, refused_before: usize, counts: Counts) -> State
-    ensures { λ r. ⌜ r ≡ opened s gap «refused_before» counts ⌝ }
+fn take_slice(
+    s: Slice,
+    c: Counts,
+    sizes: &mut [usize; 11],
+    numbers: &mut [u32; 13],
+    levels: &mut [i64; 7],
+) -> Closed
+    ensures { λ r. ⌜ (r ≡ sliceTaken (stateIn (lent sizes numbers levels .entry)) s c .closed) × (lent sizes numbers levels .exit ≡ wordsOf (sliceTaken (stateIn (lent sizes numbers levels .entry)) s c .state)) ⌝ }
 {
-    State {
-        begun: true,
-        exposure: first_slice(s, gap, refused_before),
-        last: s,
-        refused_since: 0,
-        counts,
+    let refused = sizes[4];
+    if numbers[0] == 0 {
+        let opened = first_slice(s, false, refused);
+        lay(true, opened, s, 0, c, sizes, numbers, levels);
+        return Closed::Nothing;
     }
-}
-
-// No exposure is closed.
-fn go_on(state: State) -> Taken
-    ensures { λ r. ⌜ r ≡ still state ⌝ }
-{
-    Taken {
-        state,
-        closed: Closed::Nothing,
-    }
-}
-
-fn take_slice(state: State, s: Slice, counts: Counts) -> Taken
-    ensures { λ r. ⌜ r ≡ sliceTaken state s counts ⌝ }
-{
-    let e = state.exposure;
-    let last = state.last;
-    let refused = state.refused_since;
-    if !state.begun {
-        return go_on(open(s, false, refused, counts));
-    }
+    let last = last_in(sizes, numbers, levels);
     if is_first(last, s) {
+        let e = exposure_in(sizes, numbers, levels);
         let gap = is_gap(e.frame_num, s);
-        return Taken {
-            state: open(s, gap, refused, counts),
-            closed: Closed::Exposure(e),
-        };
+        let opened = first_slice(s, gap, refused);
+        lay(true, opened, s, 0, c, sizes, numbers, levels);
+        return Closed::Exposure(e);
     }
-    go_on(State {
-        begun: true,
-        exposure: next_slice(e, s),
-        last: s,
-        refused_since: refused,
-        counts,
-    })
+    let e = exposure_in(sizes, numbers, levels);
+    let more = next_slice(e, s);
+    lay(true, more, s, refused, c, sizes, numbers, levels);
+    Closed::Nothing
 }
 
 // Refused units since a picture's first slice, with a unit more.
@@ -144,46 +125,48 @@ fn refused_with(n: usize, kind: Kind) -> usize
     }
 }
 
-fn take_unit(state: State, kind: Kind, counts: Counts) -> Taken
-    ensures { λ r. ⌜ r ≡ unitTaken state kind counts ⌝ }
+fn take_unit(
+    kind: Kind,
+    c: Counts,
+    sizes: &mut [usize; 11],
+    numbers: &mut [u32; 13],
+    levels: &mut [i64; 7],
+)
+    ensures { λ _. ⌜ lent sizes numbers levels .exit ≡ wordsOf (unitTaken (stateIn (lent sizes numbers levels .entry)) kind c .state) ⌝ }
 {
-    let exposure = state.exposure;
-    let last = state.last;
-    go_on(State {
-        begun: state.begun,
-        exposure,
-        last,
-        refused_since: refused_with(state.refused_since, kind),
-        counts,
-    })
+    let begun = numbers[0] != 0;
+    let refused = refused_with(sizes[4], kind);
+    let e = exposure_in(sizes, numbers, levels);
+    let last = last_in(sizes, numbers, levels);
+    lay(begun, e, last, refused, c, sizes, numbers, levels);
 }
 
-// A unit is taken.
-pub fn take(state: State, item: Item) -> Taken
-    ensures { λ r. ⌜ r ≡ takeOf state item ⌝ }
+// A unit is taken: what it closes.
+pub fn take(
+    item: Item,
+    sizes: &mut [usize; 11],
+    numbers: &mut [u32; 13],
+    levels: &mut [i64; 7],
+) -> Closed
+    ensures { λ r. ⌜ (r ≡ takeOf (stateIn (lent sizes numbers levels .entry)) item .closed) × (lent sizes numbers levels .exit ≡ wordsOf (takeOf (stateIn (lent sizes numbers levels .entry)) item .state)) ⌝ }
 {
-    let counts = count(state.counts, item);
+    let c = count(counts(sizes), item);
     match item {
-        Item::Slice(s) => take_slice(state, s, counts),
-        Item::Unit(k) => take_unit(state, k, counts),
+        Item::Slice(s) => take_slice(s, c, sizes, numbers, levels),
+        Item::Unit(k) => {
+            take_unit(k, c, sizes, numbers, levels);
+            Closed::Nothing
+        }
     }
 }
 
 // The last exposure: nothing more is taken.
-pub fn finish(state: State) -> Closed
-    ensures { λ r. ⌜ r ≡ finishOf state ⌝ }
+pub fn finish<'a>(sizes: &'a [usize; 11], numbers: &'a [u32; 13], levels: &'a [i64; 7]) -> Closed
+    ensures { λ r. ⌜ r ≡ finishOf (stateIn (lent sizes numbers levels .entry)) ⌝ }
 {
-    let e = state.exposure;
-    if state.begun {
-        Closed::Exposure(e)
-    } else {
-        Closed::Nothing
+    if numbers[0] == 0 {
+        return Closed::Nothing;
     }
-}
-
-// How many units of each kind were taken.
-pub fn counts(state: State) -> Counts
-    ensures { λ r. ⌜ r ≡ state .counts ⌝ }
-{
-    state.counts
+    let e = exposure_in(sizes, numbers, levels);
+    Closed::Exposure(e)
 }

@@ -80,9 +80,9 @@ fn slice_of<'a>(
     ensures { λ r. ⌜ r ≡ sliceOf (tableOf (now (sequences .entry)) (now (pictures .entry))) place «nal_unit_type» «nal_ref_idc» (heldIn (now (numbers .entry)) (now (signed .entry))) ⌝ }
 {
     // as the words have them: header::words
-    let bottom = signed[0];
-    let first = signed[1];
-    let second = signed[2];
+    let bottom = signed[0] as i64;
+    let first = signed[1] as i64;
+    let second = signed[2] as i64;
     let id = numbers[2];
     let lsb = numbers[14];
     let p = named(pictures, id);

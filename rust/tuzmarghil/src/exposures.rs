@@ -1,6 +1,6 @@
 //! Exposures: the slices of a recording grouped into pictures.
 
-use crate::raw::{self, ReadOut, TakenOut, Words};
+use crate::raw::{self, ReadOut, Taken, Words};
 use crate::{Reports, Stream, StreamReport, Table};
 use std::io::{self, Read};
 
@@ -69,7 +69,7 @@ pub struct ExposureTotals {
 /// ```
 pub struct Stacker {
     /// The state after the units that were taken, and what the last one closed.
-    taken: TakenOut,
+    taken: Taken,
     exposures: u64,
     gaps: u64,
 }
@@ -108,8 +108,8 @@ impl Stacker {
 
     /// The last exposure: the recording has ended. What is taken from here on begins anew, and counts go on.
     pub fn finish(&mut self) -> Option<Exposure> {
-        let closed = raw::finish(self.taken.state);
-        self.taken.state.begun = false;
+        let closed = raw::finish(&self.taken.state);
+        self.taken.state.numbers[0] = 0; // no picture has begun
         self.told(closed)
     }
 
@@ -135,7 +135,7 @@ impl Stacker {
 
     /// What was taken so far.
     pub fn totals(&self) -> ExposureTotals {
-        let c = self.taken.state.counts;
+        let c = raw::counts(&self.taken.state);
         ExposureTotals {
             exposures: self.exposures,
             gaps: self.gaps,

@@ -76,10 +76,16 @@ extern "C" {
         out: *mut u8,
         out_len: usize,
     );
-    fn tuz_exposures_start(out: *mut State);
+    fn tuz_exposures_start(
+        state_sizes: *mut [usize; 11],
+        state_numbers: *mut [u32; 13],
+        state_levels: *mut [i64; 7],
+    );
     fn tuz_take(
-        out: *mut TakenOut,
-        state: State,
+        out: *mut ClosedOut,
+        state_sizes: *mut [usize; 11],
+        state_numbers: *mut [u32; 13],
+        state_levels: *mut [i64; 7],
         sequences: *const [u32; 224],
         pictures: *const [u32; 2304],
         place: usize,
@@ -89,7 +95,13 @@ extern "C" {
         numbers: *const NumberWords,
         signed: *const SignedWords,
     );
-    fn tuz_finish(out: *mut ClosedOut, state: State);
+    fn tuz_finish(
+        out: *mut ClosedOut,
+        state_sizes: *const [usize; 11],
+        state_numbers: *const [u32; 13],
+        state_levels: *const [i64; 7],
+    );
+    fn tuz_counts(out: *mut Counts, state_sizes: *const [usize; 11]);
     fn tuz_header_bound(pictures: *const [u32; 2304], numbers: *const NumberWords) -> usize;
     fn tuz_write_header(
         out: *mut WroteOut,
@@ -134,7 +146,7 @@ macro_rules! plain {
     )* };
 }
 
-plain!(Table Sequence Picture SequenceOut PictureOut HeaderShort HeadOut UnitHead ReadOut StepOut WalkOut ConvertedOut WroteOut ExtensionOut State TakenOut ClosedOut);
+plain!(Table Sequence Picture SequenceOut PictureOut HeaderShort HeadOut UnitHead ReadOut StepOut WalkOut ConvertedOut WroteOut ExtensionOut State ClosedOut Counts);
 
 impl ReadOut {
     /// What tells of a refusal.
@@ -174,19 +186,41 @@ impl ReadOut {
     }
 }
 
-/// The state before the first unit, for [`take`]; nothing is closed.
-pub fn exposures_start() -> TakenOut {
-    asked();
-    let mut out = TakenOut::default();
-    // SAFETY: the result lives through the call, which requires nothing.
-    unsafe { tuz_exposures_start(&mut out.state) };
-    out
+/// The words of the state that units are taken by, as the library lays them down. Any words are a state.
+#[derive(Clone, Copy, Debug, PartialEq, Eq)]
+#[repr(C)]
+pub struct State {
+    /// Places and counts.
+    pub sizes: [usize; 11],
+    /// Numbers and flags; the first is whether a picture has begun.
+    pub numbers: [u32; 13],
+    /// QPs and order count deltas.
+    pub levels: [i64; 7],
 }
 
-/// Takes a unit, by the table in force, its place, its first byte and what reading it gave: the state after it stands in `taken`, with the exposure that it closes.
+/// The state after a unit, and the exposure that the unit closed.
+#[derive(Clone, Copy, Debug, PartialEq, Eq)]
+pub struct Taken {
+    pub state: State,
+    pub closed: ClosedOut,
+}
+
+/// The state before the first unit, for [`take`]; nothing is closed.
+pub fn exposures_start() -> Taken {
+    asked();
+    let mut state = State::default();
+    let (s, n, l) = (&mut state.sizes, &mut state.numbers, &mut state.levels);
+    // SAFETY: the arrays live through the call, which requires nothing.
+    unsafe { tuz_exposures_start(s, n, l) };
+    let closed = ClosedOut::default();
+    Taken { state, closed }
+}
+
+/// Takes a unit, by the table in force, its place, its first byte and what reading it gave: the state is changed where it stands, and beside it stands the exposure that
+/// the unit closes.
 #[inline]
 pub fn take(
-    taken: &mut TakenOut,
+    taken: &mut Taken,
     table: &Table,
     place: usize,
     first: u8,
@@ -194,7 +228,8 @@ pub fn take(
     words: &Words,
 ) {
     asked();
-    let state = taken.state;
+    let Taken { state, closed } = taken;
+    let (sizes, marks, levels) = (&mut state.sizes, &mut state.numbers, &mut state.levels);
     let (q, p, n, s) = (
         &table.sequences,
         &table.pictures,
@@ -203,15 +238,28 @@ pub fn take(
     );
     let (kind, reference, answer) = (first & 31, first >> 5 & 3, out.answer);
     // SAFETY: the result and the arrays live through the call, which requires nothing.
-    unsafe { tuz_take(taken, state, q, p, place, kind, reference, answer, n, s) };
+    unsafe {
+        tuz_take(
+            closed, sizes, marks, levels, q, p, place, kind, reference, answer, n, s,
+        )
+    };
 }
 
 /// The last exposure.
-pub fn finish(state: State) -> ClosedOut {
+pub fn finish(state: &State) -> ClosedOut {
     asked();
     let mut out = ClosedOut::default();
-    // SAFETY: the result lives through the call, which requires nothing.
-    unsafe { tuz_finish(&mut out, state) };
+    // SAFETY: the result and the arrays live through the call, which requires nothing.
+    unsafe { tuz_finish(&mut out, &state.sizes, &state.numbers, &state.levels) };
+    out
+}
+
+/// How many units of each kind were taken.
+pub fn counts(state: &State) -> Counts {
+    asked();
+    let mut out = Counts::default();
+    // SAFETY: the result and the array live through the call, which requires nothing.
+    unsafe { tuz_counts(&mut out, &state.sizes) };
     out
 }
 
