@@ -1,5 +1,6 @@
 #!/usr/bin/env python3
-"""`tuz kinds` lists what the rules' model in Python works out: on the clips, torn and whole, and on recordings that are made here of units with every first byte.
+"""`tuz kinds` lists what the rules' model in Python works out: on the clips, torn and whole, and on recordings that are made here of units with every first byte; with start codes, and
+the same units by length, cut or with a length changed now and then.
 
     tests/kinds.py [--seed S] [--count N] [--port PROGRAM]
 
@@ -17,7 +18,8 @@ import subprocess
 import sys
 import tempfile
 
-from rules import kinds, listing, table_of
+from framed import behind_lengths, damaged, walk
+from rules import kinds, listing, table_of, units
 
 ROOT = pathlib.Path(__file__).resolve().parent.parent
 CODE = b"\0\0\1"
@@ -43,10 +45,10 @@ class Port:
     def __init__(self, program, folder):
         self.program, self.file = program, pathlib.Path(folder) / "clip.264"
 
-    def tell(self, recording, *words):
+    def tell(self, recording, *words, said=""):
         self.file.write_bytes(recording)
         done = subprocess.run([self.program, "kinds", str(self.file), "--force", "-q", *words], capture_output=True, text=True)
-        if done.returncode or done.stderr:
+        if done.returncode or done.stderr != said:
             sys.exit(f"kinds: exit status {done.returncode}: {done.stderr}")
         return done.stdout
 
@@ -60,15 +62,32 @@ def text(unit):
     return line + (f" ext={unit['ext']} {unit['ext_bytes']}" if unit.get("ext") else "")
 
 
+def differs(port, recording, wanted, *words, said=""):
+    """What differs from these lines in one of the three forms, or nothing. Beside JSON and CSV a broken length is `said` on standard error."""
+    found = [line for line in wanted if line.startswith("unit ")]
+    if port.tell(recording, *words).splitlines() != wanted:
+        return "the lines are not the model's"
+    if [text(json.loads(line)) for line in port.tell(recording, *words, "--format", "json", said=said).splitlines()] != found:
+        return "JSON tells something else"
+    if [text(row) for row in csv.DictReader(io.StringIO(port.tell(recording, *words, "--format", "csv", said=said)))] != found:
+        return "CSV tells something else"
+    return None
+
+
+def fault_by_length(port, recording):
+    """The same, of a recording framed by length."""
+    found, broken = walk(recording)
+    why = "fewer bytes are left than it says, or than it has"
+    said = "" if broken is None else f"tuz: {port.file}: refused 29: the length at place {broken} is broken: {why}\n"
+    return differs(port, recording, list(kinds(found, broken)), "--framing", "length", said=said)
+
+
 def fault(port, recording):
     """What differs, or nothing."""
-    wanted = list(kinds(recording))
-    if port.tell(recording).splitlines() != wanted:
-        return "the lines are not the model's"
-    if [text(json.loads(line)) for line in port.tell(recording, "--format", "json").splitlines()] != wanted[:-1]:
-        return "JSON tells something else"
-    if [text(row) for row in csv.DictReader(io.StringIO(port.tell(recording, "--format", "csv")))] != wanted[:-1]:
-        return "CSV tells something else"
+    wanted = list(kinds(units(recording)))
+    told = differs(port, recording, wanted)
+    if told:
+        return told
     for kind, unit in zip(wanted, listing(table_of([]), recording)):
         other, refused = " other " in unit, " refused " in kind
         if other and kind.split(" nal_ref_idc")[0] != unit.replace(" other", "") or refused and kind != unit:
@@ -82,21 +101,24 @@ def main():
     p.add_argument("--count", type=int, default=300)
     p.add_argument("--port", default=os.environ.get("TUZ", str(ROOT / "rust/target/release/tuz")))
     args = p.parse_args()
-    r, count, units = random.Random(args.seed), 0, 0
+    r, count, seen, broken = random.Random(args.seed), 0, 0, 0
     clips = [c.read_bytes() for c in [ROOT / "demo/torn.264", *sorted((ROOT / "tests/clips").glob("*.264"))]]
     firsts = b"".join(CODE + bytes([b]) + b"\x80\x40\x07\x80" for b in range(256))
     recordings = [*clips, firsts, *(torn(r, r.choice(clips)) for _ in range(args.count // 10)), *(generated(r) for _ in range(args.count))]
     with tempfile.TemporaryDirectory() as folder:
         port = Port(args.port, folder)
         for recording in recordings:
-            told = fault(port, recording)
+            bodies = behind_lengths(unit for _, unit in units(recording)) or bytes(4)
+            framed = (count % 2 and damaged(r, bodies)[0]) or bodies
+            told = fault(port, recording) or fault_by_length(port, framed)
             if told:
                 kept = pathlib.Path(tempfile.gettempdir()) / f"kinds-{count}.264"
                 kept.write_bytes(recording)
-                sys.exit(f"kinds: {told}; kept as {kept}")
+                sys.exit(f"kinds: {told}; kept as {kept}, and by length {framed.hex()}")
             count += 1
-            units += sum(1 for _ in kinds(recording)) - 1
-    print(f"kinds: {units:,} units of {count} recordings, as the model lists them, in text, JSON and CSV")
+            seen += sum(1 for _ in units(recording))
+            broken += walk(framed)[1] is not None
+    print(f"kinds: {seen:,} units of {count} recordings, as the model lists them, in text, JSON and CSV; and by length, where {broken} have a broken one")
 
 
 main()

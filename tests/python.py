@@ -79,6 +79,28 @@ def compared(port, clip):
     return len(wanted), int(numpy.isnan(qp).sum())
 
 
+def by_length(port, folder, clip):
+    """The same clip by length has the same units, at other places; and where it is cut, those before the broken length."""
+    framed, cut = folder / "framed", folder / "cut"
+    subprocess.run([port, "convert", clip, "-o", framed, "--to", "length", "-q"], check=True)
+    cut.write_bytes(framed.read_bytes()[:-1])
+
+    def fields(found, names):
+        return [[getattr(x, name) for name in names if name != "place"] for x in found]
+
+    for what, names in (tuzmarghil.reports, NAMES), (tuzmarghil.kinds, KINDS), (tuzmarghil.exposures, EXPOSURE):
+        coded, whole, part = what(clip), what(framed, framing="length"), what(cut, framing="length")
+        same, less = fields(whole, names), fields(part, names)
+        held(f"{clip.name} by length: another unit", same == fields(coded, names))
+        held(f"{clip.name} by length: broken", coded.broken is None and whole.broken is None)
+        last = list(tuzmarghil.reports(framed, framing="length"))[-1]
+        held(f"{clip.name} cut: another place", part.broken == last.place - 4)
+        held(f"{clip.name} cut: another unit", what is tuzmarghil.exposures or less == same[:-1])
+    qp, less = (numpy.asarray(tuzmarghil.qp(x, framing="length")) for x in (framed, cut))
+    held(f"{clip.name} by length: another QP", numpy.array_equal(qp, tuzmarghil.qp(clip), equal_nan=True))
+    held(f"{clip.name} cut: no NaN at the end", numpy.isnan(less[-1]))
+
+
 def errors():
     clip = ROOT / "demo/night.264"
     movie = pathlib.Path(tempfile.gettempdir()) / f"tuz-{os.getpid()}.mp4"
@@ -92,6 +114,8 @@ def errors():
         (lambda: tuzmarghil.kinds(movie), ValueError),
         (lambda: list(tuzmarghil.reports(ROOT)), OSError),
         (lambda: tuzmarghil.reports(movie), ValueError),
+        (lambda: tuzmarghil.reports(movie, framing="length"), ValueError),
+        (lambda: tuzmarghil.kinds(clip, framing="lengths"), ValueError),
         (lambda: tuzmarghil.reports(clip, "sps:0"), ValueError),
         (lambda: tuzmarghil.reports(clip, "sps:0:1:0:0:17:2:0:0:1:99"), ValueError),
     ]:
@@ -124,9 +148,12 @@ def main():
     clips = [ROOT / "demo/torn.264", *sorted((ROOT / "tests/clips").glob("*.264"))]
     counts = [compared(args.port, clip) for clip in clips]
     pictures = sum(exposed(args.port, clip) for clip in clips)
+    with tempfile.TemporaryDirectory() as folder:
+        for clip in clips:
+            by_length(args.port, pathlib.Path(folder), clip)
     errors()
     units, refused = (sum(n) for n in zip(*counts))
-    print(f"python: {units} units of {len(clips)} clips, {refused} of them refused, and {pictures} exposures are as the command tells them")
+    print(f"python: {units} units of {len(clips)} clips, {refused} of them refused, and {pictures} exposures are as the command tells them, and by length alike")
 
 
 main()

@@ -519,14 +519,17 @@ def kind_words(unit):
     return " ".join(words)
 
 
-def kinds(recording):
-    """The lines of a listing of kinds."""
+def kinds(found, broken=None):
+    """The lines of a listing of kinds: of units with their places, and of the broken length that ends them, if one does."""
     count = refused = 0
-    for place, unit in units(recording):
+    for place, unit in found:
         line = kind_words(unit)
         count += 1
         refused += line.startswith("refused")
         yield f"unit place={place} length={len(unit)} {line}"
+    if broken is not None:
+        refused += 1
+        yield f"refused 29 value={broken}"
     yield f"end units={count} refused={refused}"
 
 
@@ -546,7 +549,7 @@ def main(command, *words):
     if command == "cases":
         lines = cases(words[0])
     elif command == "kinds":
-        lines = kinds(open(words[0], "rb").read())
+        lines = kinds(units(open(words[0], "rb").read()))
     else:
         given = open(words[1]).read().split() if words[0] == "--table" else []
         lines = listing(table_of(given), open(words[-1], "rb").read())

@@ -9,7 +9,7 @@ use crate::window::reached;
 use crate::window::short_window;
 use crate::window::within;
 ghost use mathlib.Core.Path.{_≡_};
-ghost use Prim.Native.Nat.{ℕ, _+_, _-_, _*_, _/_, _^_, _≤_, _<_};
+ghost use Prim.Native.Nat.{_-_, _*_, _^_, _≤_, _<_};
 ghost use lib.ListN.{length};
 ghost use Rattle.bits.specs.Bits.{reach, bitsOf, bytesBits};
 ghost use Rattle.bits.specs.Codes.{widthOf, fixedAt, uAt, flagAt, ueAt, seAt, seOf};

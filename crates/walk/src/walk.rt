@@ -64,7 +64,8 @@ pub fn walk_into(
 ) -> WalkedShort
     ensures { λ r. ⌜ WalkedInto (walked (tableOf (now (sequences .entry)) (now (pictures .entry))) (now (recording .entry)) from (now (scratch .entry))) r (now (scratch .exit)) (tableOf (now (sequences .exit)) (now (pictures .exit))) (lentWords numbers signed l0 l1 marking w0 w1 base .entry) (lentWords numbers signed l0 l1 marking w0 w1 base .exit) ⌝ }
 {
-    if LIMIT < recording.len() {
+    let n = recording.len();
+    if LIMIT < n {
         return WalkedShort {
             step: Step::Refused(refuse(TOO_LARGE, 0)),
             answer: ShortAnswer::Other(0),

@@ -1,7 +1,8 @@
 //! `import tuzmarghil`: the units of a recording as plain objects, their kinds alone, its exposures, and QP as an array.
 
 use ::tuzmarghil::{
-    container, NalHeaderExtension, Stream, StreamExposures, StreamHead, StreamReport, Table, Unit,
+    container, in_container, LengthFramed, NalHeaderExtension, Refusal, Stream, StreamExposures,
+    StreamHead, StreamReport, Table, Unit, Units,
 };
 use pyo3::exceptions::{PyOSError, PyValueError};
 use pyo3::prelude::*;
@@ -14,7 +15,7 @@ use std::path::{Path, PathBuf};
 #[pyclass(frozen, module = "tuzmarghil")]
 #[derive(Default)]
 struct Report {
-    /// Where the unit begins, after its start code.
+    /// Where the unit begins, after its start code or its length.
     #[pyo3(get)]
     place: u64,
     /// How many bytes it has.
@@ -155,7 +156,7 @@ fn report(r: &StreamReport<'_>) -> Report {
 #[pyclass(frozen, module = "tuzmarghil")]
 #[derive(Default)]
 struct Kind {
-    /// Where the unit begins, after its start code.
+    /// Where the unit begins, after its start code or its length.
     #[pyo3(get)]
     place: u64,
     /// How many bytes it has.
@@ -288,21 +289,42 @@ impl Exposure {
 
 /// A recording's file, its front looked at.
 type Source = Chain<Cursor<Vec<u8>>, File>;
-type Recording = Stream<Source>;
+type Recording = Units<Source>;
 
-/// The recording, by a table to start with, and its name for messages.
-fn open(path: &Path, table: Table) -> PyResult<(Recording, String)> {
+/// The recording, by a table to start with and framed as is asked for, and its name for messages.
+fn open(path: &Path, table: Table, framing: Option<&str>) -> PyResult<(Recording, String)> {
+    let framed = match framing {
+        None | Some("start-codes") => false,
+        Some("length") => true,
+        Some(other) => {
+            let told = format!("framing {other:?} is neither 'start-codes' nor 'length'");
+            return Err(PyValueError::new_err(told));
+        }
+    };
     let name = path.display().to_string();
     let failed = |e| PyOSError::new_err(format!("{name}: {e}"));
     let mut file = File::open(path).map_err(failed)?;
     let mut front = Vec::new();
     let look = file.by_ref().take(4096).read_to_end(&mut front);
     let whole = look.map_err(failed)? < 4096;
-    if let Some(told) = container(&front, whole) {
+    let told = match framed {
+        true => in_container(&front),
+        false => container(&front, whole),
+    };
+    if let Some(told) = told {
         return Err(PyValueError::new_err(format!("{name}: {told}")));
     }
     let source = Cursor::new(front).chain(file);
-    Ok((Stream::with_table(source, table), name))
+    let units = match framed {
+        true => Units::Length(LengthFramed::with_table(source, table)),
+        false => Units::StartCodes(Stream::with_table(source, table)),
+    };
+    Ok((units, name))
+}
+
+/// The place of the broken length that a recording framed by length ended at, or None.
+fn place(broken: Option<Refusal>) -> Option<i64> {
+    broken.map(|refusal| refusal.value)
 }
 
 /// The kinds of a recording's units, one after the other.
@@ -325,6 +347,12 @@ impl Kinds {
         let step = step.map_err(|e| PyOSError::new_err(format!("{name}: {e}")))?;
         Ok(step.map(|unit| kind(&unit)))
     }
+
+    /// At the end, the place of the broken length that ended a recording framed by length, or None.
+    #[getter]
+    fn broken(&self) -> Option<i64> {
+        place(self.stream.broken())
+    }
 }
 
 /// The exposures of a recording, one after the other.
@@ -346,6 +374,12 @@ impl Exposures {
         let step = self.found.next().transpose();
         let step = step.map_err(|e| PyOSError::new_err(format!("{name}: {e}")))?;
         Ok(step.map(Exposure))
+    }
+
+    /// At the end, the place of the broken length that ended a recording framed by length, or None.
+    #[getter]
+    fn broken(&self) -> Option<i64> {
+        place(self.found.broken())
     }
 
     /// What was taken so far, at the end all of it, as a dict: exposures, gaps, slices, redundant, refused, prefixes, views and others.
@@ -376,8 +410,8 @@ struct Reports {
 }
 
 impl Reports {
-    fn open(path: &Path, table: Option<&str>) -> PyResult<Reports> {
-        let (stream, name) = open(path, table_of(table)?)?;
+    fn open(path: &Path, table: Option<&str>, framing: Option<&str>) -> PyResult<Reports> {
+        let (stream, name) = open(path, table_of(table)?, framing)?;
         Ok(Reports { stream, name })
     }
 
@@ -399,6 +433,12 @@ impl Reports {
         py.check_signals()?;
         self.step(report)
     }
+
+    /// At the end, the place of the broken length that ended a recording framed by length, or None.
+    #[getter]
+    fn broken(&self) -> Option<i64> {
+        place(self.stream.broken())
+    }
 }
 
 /// Sets to try things with, as words.
@@ -418,32 +458,41 @@ fn table_of(words: Option<&str>) -> PyResult<Table> {
     Ok(table)
 }
 
-/// The units of a recording with start codes, as an iterator of plain objects. Its parameter sets are read as they come; `table` is the text of sets to start with, such
-/// as SAMPLE, for a recording that lacks them.
+/// The units of a recording, as an iterator of plain objects. Its parameter sets are read as they come; `table` is the text of sets to start with, such as SAMPLE, for a
+/// recording that lacks them. `framing` is 'start-codes', or 'length' for one whose units stand behind lengths of 4 bytes: where such a length is broken the units end, and
+/// the iterator's `broken` is its place.
 #[pyfunction]
-fn reports(path: PathBuf, table: Option<&str>) -> PyResult<Reports> {
-    Reports::open(&path, table)
+fn reports(path: PathBuf, table: Option<&str>, framing: Option<&str>) -> PyResult<Reports> {
+    Reports::open(&path, table, framing)
 }
 
-/// The kinds of a recording's units, as an iterator of plain objects: what their first bytes say. Bodies are not read.
+/// The kinds of a recording's units, as an iterator of plain objects: what their first bytes say. Bodies are not read. `framing` as in
+/// `reports`.
 #[pyfunction]
-fn kinds(path: PathBuf) -> PyResult<Kinds> {
-    let (stream, name) = open(&path, Table::new())?;
+fn kinds(path: PathBuf, framing: Option<&str>) -> PyResult<Kinds> {
+    let (stream, name) = open(&path, Table::new(), framing)?;
     Ok(Kinds { stream, name })
 }
 
-/// The exposures of a recording, that is its pictures, as an iterator of plain objects, whose `totals` counts what was taken. `table` as in `reports`.
+/// The exposures of a recording, that is its pictures, as an iterator of plain objects, whose `totals` counts what was taken. `table` and `framing` as
+/// in `reports`.
 #[pyfunction]
-fn exposures(path: PathBuf, table: Option<&str>) -> PyResult<Exposures> {
-    let (stream, name) = open(&path, table_of(table)?)?;
+fn exposures(path: PathBuf, table: Option<&str>, framing: Option<&str>) -> PyResult<Exposures> {
+    let (stream, name) = open(&path, table_of(table)?, framing)?;
     let found = stream.exposures();
     Ok(Exposures { found, name })
 }
 
-/// The final QP of each slice, and NaN for each refused unit, in their order: an array.array of doubles, which numpy.asarray takes without a copy.
+/// The final QP of each slice, and NaN for each refused unit and for a broken length, in their order: an array.array of doubles, which numpy.asarray takes without a
+/// copy. `table` and `framing` as in `reports`.
 #[pyfunction]
-fn qp(py: Python<'_>, path: PathBuf, table: Option<&str>) -> PyResult<PyObject> {
-    let mut all = Reports::open(&path, table)?;
+fn qp(
+    py: Python<'_>,
+    path: PathBuf,
+    table: Option<&str>,
+    framing: Option<&str>,
+) -> PyResult<PyObject> {
+    let mut all = Reports::open(&path, table, framing)?;
     let mut bytes = Vec::new();
     let of = |r: &StreamReport<'_>| match r.unit() {
         Ok(Unit::Slice(slice)) => Some(slice.qp as f64),
@@ -457,6 +506,9 @@ fn qp(py: Python<'_>, path: PathBuf, table: Option<&str>) -> PyResult<PyObject> 
         if bytes.len() % (1 << 16) == 0 {
             py.check_signals()?;
         }
+    }
+    if all.broken().is_some() {
+        bytes.extend_from_slice(&f64::NAN.to_ne_bytes());
     }
     let array = py.import("array")?.getattr("array")?;
     Ok(array.call1(("d", PyBytes::new(py, &bytes)))?.into())

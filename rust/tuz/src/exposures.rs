@@ -140,9 +140,7 @@ impl Pictures<'_> {
     /// All units were taken: the last exposure, the file, the totals.
     fn end(mut self, passed: &Passed, quiet: bool) -> Result<u8> {
         self.begin()?;
-        if let Some(refusal) = passed.broken {
-            eprintln!("tuz: {}: {refusal}", self.name);
-        }
+        let broken = passed.tell_broken(&self.name, None)?;
         if let Some(last) = self.stacker.finish() {
             self.tell(&last)?;
         }
@@ -161,7 +159,6 @@ impl Pictures<'_> {
                 self.name, t.exposures, t.gaps, t.refused, t.redundant, t.views
             );
         }
-        let refused = t.refused > 0 || passed.broken.is_some();
-        Ok(u8::from(self.strict && refused))
+        Ok(u8::from(self.strict && (t.refused > 0 || broken)))
     }
 }

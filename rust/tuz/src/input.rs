@@ -8,8 +8,8 @@ use indicatif::{ProgressBar, ProgressStyle};
 use std::fs::{self, File};
 use std::io::{self, BufRead, BufReader, Cursor, ErrorKind, Read};
 use std::path::{Path, PathBuf};
-use tuzmarghil::{container, container_needs, in_container, looks_framed, CONTAINER_LOOK};
-use tuzmarghil::{LengthFramed, Refusal, Stream, StreamHead, StreamReport, Table, LIMIT};
+use tuzmarghil::{container, container_needs, in_container, looks_framed, raw, CONTAINER_LOOK};
+use tuzmarghil::{LengthFramed, Refusal, Stream, StreamHead, StreamReport, Table, Units, LIMIT};
 
 /// The sample sets of the rules, both with id 0.
 const SAMPLE: &str = "sps:0:1:0:0:4:2:0:0:1:99 pps:0:0:0:0:0:0:0:0:0:0:0:0:0";
@@ -207,63 +207,36 @@ pub struct Recording {
     last: [u8; 2],
 }
 
-/// The recording's units, one after the other.
-enum Units {
-    Coded(Box<Stream<Recording>>),
-    Framed(Box<LengthFramed<Recording>>),
-}
-
-impl Units {
-    fn new(recording: Recording, table: Table) -> Units {
-        match recording.framed {
-            true => Units::Framed(Box::new(LengthFramed::with_table(recording, table))),
-            false => Units::Coded(Box::new(Stream::with_table(recording, table))),
-        }
-    }
-
-    fn next_unit_at_hand(&mut self) -> Option<StreamReport<'_>> {
-        match self {
-            Units::Coded(stream) => stream.next_unit_at_hand(),
-            Units::Framed(stream) => stream.next_unit_at_hand(),
-        }
-    }
-
-    fn next_head_at_hand(&mut self) -> Option<StreamHead<'_>> {
-        match self {
-            Units::Coded(stream) => stream.next_head_at_hand(),
-            Units::Framed(stream) => stream.next_head_at_hand(),
-        }
-    }
-
-    fn read_more(&mut self) -> io::Result<bool> {
-        match self {
-            Units::Coded(stream) => stream.read_more(),
-            Units::Framed(stream) => stream.read_more(),
-        }
-    }
-
-    /// How far it is read, and refusal 29 where that is what ended it.
-    fn passed(&self) -> Passed {
-        match self {
-            Units::Coded(stream) => Passed {
-                bytes: stream.position(),
-                broken: None,
-            },
-            Units::Framed(stream) => Passed {
-                bytes: stream.position(),
-                broken: stream.broken(),
-            },
-        }
-    }
-}
-
 /// What a recording came to: its length in bytes, and the broken length that ended it, if one did.
 pub struct Passed {
     pub bytes: u64,
-    pub broken: Option<Refusal>,
+    broken: Option<Refusal>,
+}
+
+impl Passed {
+    /// Whether a length is broken, which is no unit, and is told: by a line of its own in a listing, and elsewhere on standard error.
+    pub fn tell_broken(&self, name: &str, listing: Option<&mut Stdout>) -> Result<bool> {
+        match (self.broken, listing) {
+            (None, _) => return Ok(false),
+            (Some(refusal), None) => eprintln!("tuz: {name}: {refusal}"),
+            (Some(refusal), Some(out)) => {
+                let mut line = [0; 128];
+                out.write(raw::broken_line(&mut line, refusal.value as usize))?;
+            }
+        }
+        Ok(true)
+    }
 }
 
 impl Recording {
+    /// Its units, one after the other.
+    fn into_units(self, table: Table) -> Units<Recording> {
+        match self.framed {
+            true => Units::Length(LengthFramed::with_table(self, table)),
+            false => Units::StartCodes(Stream::with_table(self, table)),
+        }
+    }
+
     /// Hands each unit to `each` by `take`, with a table to start with.
     pub fn units<E: Each>(
         self,
@@ -297,7 +270,7 @@ impl Recording {
         table: Table,
         quiet: bool,
         each: &mut E,
-        step: impl Fn(&mut E, &mut Units) -> Result<Option<()>>,
+        step: impl Fn(&mut E, &mut Units<Recording>) -> Result<Option<()>>,
     ) -> Result<Passed> {
         let bar = match self.length {
             0..=LONG => ProgressBar::hidden(),
@@ -309,7 +282,7 @@ impl Recording {
             }
         };
         let (name, mut told) = (self.name.clone(), 0);
-        let mut units = Units::new(self, table);
+        let mut units = self.into_units(table);
         while each.wanted() {
             stop::check()?;
             if step(each, &mut units)?.is_some() {
@@ -320,14 +293,17 @@ impl Recording {
             if !units.read_more().with_context(|| name.clone())? {
                 break;
             }
-            let passed = units.passed().bytes;
+            let passed = units.position();
             if passed > told + LONG {
                 told = passed;
                 bar.set_position(told);
             }
         }
         bar.finish_and_clear();
-        Ok(units.passed())
+        Ok(Passed {
+            bytes: units.position(),
+            broken: units.broken(),
+        })
     }
 
     /// The whole recording.

@@ -2,7 +2,7 @@
 
 use crate::answer::{self, KINDS};
 use crate::form::{self, Format};
-use crate::input::{Clip, Each};
+use crate::input::{Clip, Each, Framing, Passed};
 use crate::output::Stdout;
 use crate::Ending;
 use anyhow::Result;
@@ -11,14 +11,21 @@ use tuzmarghil::raw;
 use tuzmarghil::StreamHead;
 
 /// Runs it; the exit status.
-pub fn run(clip: &Clip, format: Format, ending: &Ending, out: &mut Stdout) -> Result<u8> {
-    let recording = clip.open()?;
+pub fn run(
+    clip: &Clip,
+    framing: Framing,
+    format: Format,
+    ending: &Ending,
+    out: &mut Stdout,
+) -> Result<u8> {
+    let recording = clip.open_by(framing)?;
     let mut kinds = Kinds {
         format,
         strict: ending.strict,
         terminal: console::user_attended(),
         begun: false,
         line: Vec::new(),
+        units: 0,
         types: [0; 32],
         refused: 0,
         within: 0,
@@ -28,9 +35,10 @@ pub fn run(clip: &Clip, format: Format, ending: &Ending, out: &mut Stdout) -> Re
     if !kinds.wanted() {
         return Ok(0);
     }
-    kinds.end()?;
+    let name = clip.name();
+    kinds.end(&name, &passed)?;
     if !ending.quiet {
-        eprintln!("{}: {}", clip.name(), kinds.told(passed.bytes));
+        eprintln!("{name}: {}", kinds.told(passed.bytes));
     }
     Ok(u8::from(ending.strict && kinds.refused > 0))
 }
@@ -41,7 +49,8 @@ struct Kinds<'a> {
     terminal: bool,
     begun: bool,
     line: Vec<u8>,
-    /// How many units have each type, how many are refused, and how many bytes they all have.
+    /// How many units there are, how many have each type, how many are refused, and how many bytes they all have.
+    units: u64,
     types: [u64; 32],
     refused: u64,
     within: u64,
@@ -62,6 +71,7 @@ impl Kinds<'_> {
     fn take(&mut self, unit: &StreamHead<'_>) -> Result<()> {
         self.begin()?;
         let (out, place, length) = (unit.raw(), unit.place as i64, unit.length as i64);
+        self.units += 1;
         self.within += unit.length;
         match out.number {
             0 => self.types[usize::from(out.head.nal_unit_type)] += 1,
@@ -98,16 +108,15 @@ impl Kinds<'_> {
         Ok(())
     }
 
-    fn units(&self) -> u64 {
-        self.types.iter().sum::<u64>() + self.refused
-    }
-
     /// All units were told.
-    fn end(&mut self) -> Result<()> {
+    fn end(&mut self, name: &str, passed: &Passed) -> Result<()> {
         self.begin()?;
-        if self.format == Format::Text {
+        let text = self.format == Format::Text;
+        let broken = passed.tell_broken(name, text.then_some(&mut *self.out))?;
+        self.refused += u64::from(broken);
+        if text {
             let mut line = [0; 128];
-            let (units, refused) = (self.units() as usize, self.refused as usize);
+            let (units, refused) = (self.units as usize, self.refused as usize);
             self.out.write(raw::end_line(&mut line, units, refused))?;
         }
         self.out.finish()
@@ -115,7 +124,7 @@ impl Kinds<'_> {
 
     /// The totals in words, over a recording of so many bytes.
     fn told(&self, bytes: u64) -> String {
-        let (units, outside) = (self.units(), bytes.saturating_sub(self.within));
+        let (units, outside) = (self.units, bytes.saturating_sub(self.within));
         let mut told = format!("{bytes} bytes, {outside} of them in no unit; {units} units: ");
         for (id, count) in self.types.iter().enumerate().filter(|(_, n)| **n > 0) {
             let _ = write!(told, "{count} of type {id}, ");

@@ -88,6 +88,8 @@ enum What {
         #[command(flatten)]
         clip: Bare,
         #[command(flatten)]
+        framing: Framing,
+        #[command(flatten)]
         form: Form,
         #[command(flatten)]
         ending: Ending,
@@ -127,6 +129,8 @@ enum What {
     Table {
         #[command(flatten)]
         clip: Bare,
+        #[command(flatten)]
+        framing: Framing,
         #[command(flatten)]
         ending: Ending,
     },
@@ -222,9 +226,12 @@ fn run(args: &Args, out: &mut Stdout) -> Result<u8> {
             form,
             ending,
         } => units::run(&asked(Kind::Headers, clip, *framing, form, ending), out),
-        What::Kinds { clip, form, ending } => {
-            kinds::run(&Clip::from(clip), form.format, ending, out)
-        }
+        What::Kinds {
+            clip,
+            framing,
+            form,
+            ending,
+        } => kinds::run(&Clip::from(clip), *framing, form.format, ending, out),
         What::Qp {
             clip,
             framing,
@@ -244,7 +251,11 @@ fn run(args: &Args, out: &mut Stdout) -> Result<u8> {
             plot,
             ending,
         } => exposures::run(clip, *framing, form.format, plot.as_deref(), ending, out),
-        What::Table { clip, ending } => sets::run(&Clip::from(clip), ending, out),
+        What::Table {
+            clip,
+            framing,
+            ending,
+        } => sets::run(&Clip::from(clip), *framing, ending, out),
         What::Convert(convert) => convert::run(convert, out).map(|()| 0),
         What::Tear(tear) => tear::run(tear, out).map(|()| 0),
         What::Cases {

@@ -1,6 +1,6 @@
 //! The parameter sets that a recording brings: what is told of them on standard error, and `tuz table`.
 
-use crate::input::{Clip, Each};
+use crate::input::{Clip, Each, Framing};
 use crate::output::Stdout;
 use crate::Ending;
 use anyhow::Result;
@@ -112,8 +112,8 @@ fn refused_set(r: &StreamReport<'_>) -> Option<&'static str> {
 }
 
 /// `tuz table`: the sets of a recording, as lines of a table file; the exit status.
-pub fn run(clip: &Clip, ending: &Ending, out: &mut Stdout) -> Result<u8> {
-    let recording = clip.open()?;
+pub fn run(clip: &Clip, framing: Framing, ending: &Ending, out: &mut Stdout) -> Result<u8> {
+    let recording = clip.open_by(framing)?;
     let mut met = Met {
         sets: Sets::new(clip.name(), Table::new()),
         strict: ending.strict,
@@ -122,9 +122,10 @@ pub fn run(clip: &Clip, ending: &Ending, out: &mut Stdout) -> Result<u8> {
         refused: 0,
         out,
     };
-    recording.units(Table::new(), ending.quiet, &mut met, Met::take)?;
+    let passed = recording.units(Table::new(), ending.quiet, &mut met, Met::take)?;
     met.out.finish()?;
     met.sets.end();
+    let broken = passed.tell_broken(&clip.name(), None)?;
     let Met {
         count,
         lines,
@@ -138,7 +139,7 @@ pub fn run(clip: &Clip, ending: &Ending, out: &mut Stdout) -> Result<u8> {
             clip.name()
         );
     }
-    Ok(u8::from(ending.strict && refused > 0))
+    Ok(u8::from(ending.strict && (refused > 0 || broken)))
 }
 
 struct Met<'a> {

@@ -11,7 +11,7 @@ use crate::Ending;
 use anyhow::Result;
 use std::path::Path;
 use tuzmarghil::raw::{self, ReadOut};
-use tuzmarghil::{Refusal, StreamReport};
+use tuzmarghil::StreamReport;
 
 /// Which command it is.
 #[derive(Clone, Copy, PartialEq, Eq)]
@@ -203,31 +203,17 @@ impl Units<'_> {
         Ok(())
     }
 
-    /// A length that is broken, and ends the recording: a line of its own in the listing, and no unit.
-    fn broken(&mut self, refusal: &Refusal) -> Result<()> {
-        self.totals.refused += 1;
-        if self.asked.kind == Kind::Qp {
-            self.quantisers.take(None);
-        }
-        if self.lines && self.asked.format == Format::Text {
-            let mut line = [0; 128];
-            let told = raw::broken_line(&mut line, refusal.value as usize);
-            return self.out.write(told);
-        }
-        eprintln!("tuz: {}: {refusal}", self.asked.clip.name());
-        Ok(())
-    }
-
     /// All units were told: the last lines, the files, the totals.
     fn end(mut self, passed: &Passed) -> Result<u8> {
         self.begin()?;
-        if let Some(refusal) = passed.broken {
-            self.broken(&refusal)?;
+        let (kind, ending) = (self.asked.kind, self.asked.ending);
+        let text = self.lines && self.asked.format == Format::Text;
+        let name = self.asked.clip.name();
+        if passed.tell_broken(&name, text.then_some(&mut *self.out))? {
+            self.totals.refused += 1;
+            self.quantisers.take(None);
         }
-        let (kind, text) = (self.asked.kind, self.asked.format == Format::Text);
-        let (clip, ending) = (self.asked.clip, self.asked.ending);
-        let name = clip.name();
-        if self.lines && text && kind == Kind::List {
+        if text && kind == Kind::List {
             let (units, refused) = (self.totals.units, self.totals.refused);
             let mut line = [0; 128];
             let end = raw::end_line(&mut line, units as usize, refused as usize);
@@ -237,7 +223,7 @@ impl Units<'_> {
             Kind::Qp => self.quantisers.lines(),
             _ => String::new(),
         };
-        if self.lines && text {
+        if text {
             self.out.write(sums.as_bytes())?;
         }
         if let (Some(course), Some(plot)) = (&self.course, &mut self.plot) {
@@ -249,7 +235,7 @@ impl Units<'_> {
         self.out.finish()?;
         self.sets.end();
         if !ending.quiet {
-            if !(self.lines && text) {
+            if !text {
                 eprint!("{sums}");
             }
             eprintln!("{name}: {}", self.totals.told(passed.bytes));

@@ -12,14 +12,36 @@ unit place=12 length=2 other type=9
 ";
 
 fn by_length(command: &str, more: &[&str], input: &[u8]) -> std::process::Output {
-    let words = [command, "-", "--sample", "-q", "--framing", "length"];
-    tuz(&[&words, more].concat(), input)
+    let words = [command, "-", "-q", "--framing", "length"];
+    // those two read no slice
+    let sample: &[&str] = match command {
+        "kinds" | "table" => &[],
+        _ => &["--sample"],
+    };
+    tuz(&[&words, sample, more].concat(), input)
 }
+
+/// Sets and a slice, each behind its length, with one more set, another one, before the last slice.
+const SETS_FRAMED: [&[u8]; 5] = [
+    &[0, 0, 0, 8, 0x67, 0x42, 0xC0, 0x0A, 0xDA, 0x0B, 0x13, 0x90],
+    &[0, 0, 0, 4, 0x68, 0xCE, 0x04, 0x62],
+    &[0, 0, 0, 4, 0x65, 0x88, 0x84, 0xA0],
+    &[0, 0, 0, 4, 0x68, 0xCE, 0x38, 0x80],
+    &[0, 0, 0, 4, 0x65, 0x88, 0x84, 0xA0],
+];
 
 /// A clip of the repository.
 fn clip(name: &str) -> Vec<u8> {
     let path = format!("{}/../../{name}", env!("CARGO_MANIFEST_DIR"));
     fs::read(path).unwrap()
+}
+
+/// The words of each line but its place.
+fn placeless(lines: &str) -> Vec<Vec<&str>> {
+    let lines = lines.lines().map(|line| line.split(' '));
+    lines
+        .map(|words| words.filter(|w| !w.starts_with("place=")).collect())
+        .collect()
 }
 
 #[test]
@@ -68,6 +90,98 @@ fn a_broken_length_ends_it() {
     );
 }
 
+/// What the first bytes say, with places by length: whole, without a byte, and up to a length that is broken, which is a line of its own and no unit.
+#[test]
+fn kinds() {
+    const KINDS: &str = "\
+unit place=4 length=4 type=5 nal_ref_idc=3
+unit place=12 length=2 type=9 nal_ref_idc=0
+";
+    let done = by_length("kinds", &["--strict"], &FRAMED);
+    assert_eq!(out(&done), format!("{KINDS}end units=2 refused=0\n"));
+    assert_eq!((err(&done).as_str(), done.status.code()), ("", Some(0)));
+    let done = by_length("kinds", &[], &[0; 4]);
+    assert_eq!(
+        out(&done),
+        "unit place=4 length=0 refused 1 value=0\nend units=1 refused=1\n"
+    );
+    // the units behind a broken length are lost, and nothing else is
+    let input = [&FRAMED[..], &[0, 0, 1, 0, 0x65], &FRAMED].concat();
+    let done = by_length("kinds", &["--strict"], &input);
+    let last = "refused 29 value=14\nend units=2 refused=1\n";
+    assert_eq!(out(&done), format!("{KINDS}{last}"));
+    assert_eq!((err(&done).as_str(), done.status.code()), ("", Some(1)));
+    for (format, lines) in [("json", 2), ("csv", 3)] {
+        let done = by_length("kinds", &["--format", format, "--strict"], &input);
+        assert_eq!(
+            (out(&done).lines().count(), done.status.code()),
+            (lines, Some(1))
+        );
+        let told = "tuz: standard input: refused 29: the length at place 14 is broken";
+        assert!(err(&done).starts_with(told), "{}", err(&done));
+    }
+    let done = tuz(&["kinds", "-", "--framing", "length"], &input);
+    assert_eq!(
+        err(&done),
+        "standard input: 33 bytes, 27 of them in no unit; 2 units: 1 of type 5, 1 of type 9, 1 refused\n"
+    );
+}
+
+/// The sets up to a length that is broken. It is told on standard error, since what is printed is a table.
+#[test]
+fn tables() {
+    const SPS: &str = "sps:0:1:0:0:4:2:0:0:1:99 # place=4\n";
+    let whole = SETS_FRAMED.concat();
+    let done = by_length("table", &["--strict"], &whole);
+    let all = format!(
+        "{SPS}pps:0:0:0:0:0:0:0:0:4:0:0:0:0 # place=16\npps:0:0:0:0:0:0:0:0:0:0:0:0:0 # place=32\n"
+    );
+    assert_eq!((out(&done), done.status.code()), (all, Some(0)));
+    let other = "tuz: standard input: place 32: picture parameter set 0 replaces a different one\n";
+    assert_eq!(err(&done), other);
+    // the second set's length is too great by far
+    let mut broken = whole;
+    broken[12] = 1;
+    let done = by_length("table", &["--strict"], &broken);
+    assert_eq!((out(&done).as_str(), done.status.code()), (SPS, Some(1)));
+    let told = "tuz: standard input: refused 29: the length at place 12 is broken";
+    assert!(err(&done).starts_with(told), "{}", err(&done));
+    let done = tuz(&["table", "-", "--framing", "length"], &broken);
+    let told = "standard input: 1 parameter sets, 0 of them as the table had them; 0 refused\n";
+    assert!(err(&done).ends_with(told), "{}", err(&done));
+    assert_eq!(done.status.code(), Some(0));
+    let done = by_length("table", &["--strict"], &[0; 4]);
+    assert_eq!(
+        (out(&done), err(&done), done.status.code()),
+        (String::new(), String::new(), Some(0))
+    );
+}
+
+/// A file that is empty, in a container or framed otherwise is told alike by all commands.
+#[test]
+fn no_such_recording() {
+    for command in ["list", "headers", "kinds", "qp", "exposures", "table"] {
+        for (framing, input, told) in [
+            ("length", &b""[..], "tuz: standard input: is empty\n"),
+            ("auto", b"", "tuz: standard input: is empty\n"),
+            (
+                "length",
+                b"\0\0\0\x20ftypisom",
+                "tuz: standard input: is an MP4 file",
+            ),
+            (
+                "start-codes",
+                &FRAMED,
+                "tuz: standard input: has its units behind lengths",
+            ),
+        ] {
+            let done = tuz(&[command, "-", "--framing", framing], input);
+            assert!(err(&done).starts_with(told), "{command}: {}", err(&done));
+            assert_eq!((out(&done).as_str(), done.status.code()), ("", Some(2)));
+        }
+    }
+}
+
 /// Clips by length are told as they are with start codes of four bytes, which stand where the lengths do, by every command.
 #[test]
 fn clips_are_told_alike() {
@@ -86,18 +200,27 @@ fn clips_are_told_alike() {
             &framed,
         )
         .stdout;
-        for command in ["list", "headers", "qp", "exposures"] {
-            for format in ["text", "json", "csv"] {
-                let told = |framing: &str, input: &[u8]| {
-                    let words = [command, "-", "--format", format, "--framing", framing];
-                    tuz(&words, input)
-                };
-                let (by_code, by_length) = (told("start-codes", &coded), told("length", &framed));
-                assert_eq!(out(&by_code), out(&by_length), "{name} {command} {format}");
-                assert_eq!(err(&by_code), err(&by_length), "{name} {command} {format}");
-                assert!(out(&by_code).lines().count() > 20);
+        let alike = |words: &[&str], least: usize| {
+            let told = |framing: &str, input: &[u8]| {
+                tuz(&[words, &["-", "--framing", framing]].concat(), input)
+            };
+            let (by_code, by_length) = (told("start-codes", &coded), told("length", &framed));
+            assert_eq!(out(&by_code), out(&by_length), "{name} {words:?}");
+            assert_eq!(err(&by_code), err(&by_length), "{name} {words:?}");
+            assert!(out(&by_code).lines().count() >= least);
+            // start codes of the clip itself may have three bytes
+            if words.len() == 1 {
+                let (first, last) = (out(&told("start-codes", &clip(name))), out(&by_length));
+                assert_eq!(placeless(&first), placeless(&last), "{name} {words:?}");
+            }
+        };
+        for command in ["list", "headers", "kinds", "qp", "exposures"] {
+            alike(&[command], 20);
+            for format in ["json", "csv"] {
+                alike(&[command, "--format", format], 20);
             }
         }
+        alike(&["table"], 2);
     }
 }
 

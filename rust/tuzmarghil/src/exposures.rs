@@ -1,7 +1,7 @@
 //! Exposures: the slices of a recording grouped into pictures.
 
 use crate::raw::{self, ReadOut, Taken, Words};
-use crate::{Reports, Stream, StreamReport, Table};
+use crate::{LengthFramed, Refusal, Reports, Stream, StreamReport, Table, Units};
 use std::io::{self, Read};
 
 /// A picture as a stacker weighs it: its slices of types 1 and 5 without redundant ones, put together by the comparison of neighbouring slices in 7.4.1.2.4.
@@ -199,16 +199,31 @@ impl Iterator for Exposures<'_> {
 
 impl std::iter::FusedIterator for Exposures<'_> {}
 
-/// The iterator of [`Stream::exposures`].
+/// The iterator of [`Units::exposures`], and of those of either framing.
 pub struct StreamExposures<R> {
-    stream: Stream<R>,
+    units: Units<R>,
     stacker: Stacker,
 }
 
-impl<R> StreamExposures<R> {
+impl<R: Read> StreamExposures<R> {
     /// What was taken so far: at the end, all of it.
     pub fn totals(&self) -> ExposureTotals {
         self.stacker.totals()
+    }
+
+    /// Refusal 29 where a broken length has ended the recording ([`LengthFramed::broken`]). It is no unit, and not in the totals.
+    pub fn broken(&self) -> Option<Refusal> {
+        self.units.broken()
+    }
+}
+
+impl<R: Read> Units<R> {
+    /// The exposures of the recording from here on, in order. An error of the source loses nothing.
+    pub fn exposures(self) -> StreamExposures<R> {
+        StreamExposures {
+            units: self,
+            stacker: Stacker::default(),
+        }
     }
 }
 
@@ -225,10 +240,25 @@ impl<R: Read> Stream<R> {
     /// # Ok::<(), std::io::Error>(())
     /// ```
     pub fn exposures(self) -> StreamExposures<R> {
-        StreamExposures {
-            stream: self,
-            stacker: Stacker::default(),
-        }
+        Units::StartCodes(self).exposures()
+    }
+}
+
+impl<R: Read> LengthFramed<R> {
+    /// The exposures of the recording from here on, in order, up to a broken length, if there is one. An error of the source loses nothing.
+    ///
+    /// ```
+    /// use tuzmarghil::{LengthFramed, Table};
+    ///
+    /// let recording: &[u8] = &[0, 0, 0, 4, 0x65, 0x88, 0x84, 0xA0, 0, 0, 0, 9, 0x65];
+    /// let mut found = LengthFramed::with_table(recording, Table::sample()).exposures();
+    /// assert_eq!(found.next().unwrap()?.place, 4);
+    /// assert!(found.next().is_none());
+    /// assert_eq!(found.broken().unwrap().value, 8);
+    /// # Ok::<(), std::io::Error>(())
+    /// ```
+    pub fn exposures(self) -> StreamExposures<R> {
+        Units::Length(self).exposures()
     }
 }
 
@@ -237,7 +267,7 @@ impl<R: Read> Iterator for StreamExposures<R> {
 
     fn next(&mut self) -> Option<io::Result<Exposure>> {
         loop {
-            match self.stream.next_unit() {
+            match self.units.next_unit() {
                 Err(e) => return Some(Err(e)),
                 Ok(None) => return self.stacker.finish().map(Ok),
                 Ok(Some(report)) => {

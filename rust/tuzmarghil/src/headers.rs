@@ -95,7 +95,7 @@ pub(crate) enum Found {
     TooLong { place: u64, length: u64 },
 }
 
-/// What a stream of units tells, over its `find`, `read_more`, `table`, `lent`, `buffer` and the place `base` of the buffer's first byte.
+/// What a stream of units tells, over its `find`, `read_more`, `table`, `lent` and `piece`.
 macro_rules! telling {
     ($stream:ident, $next:expr) => {
         impl<R: Read> $stream<R> {
@@ -143,7 +143,8 @@ macro_rules! telling {
             fn head(&self, found: Found) -> crate::StreamHead<'_> {
                 match found {
                     Found::Unit { from, to } => {
-                        let (place, bytes) = (self.base + from as u64, &self.buffer[from..to]);
+                        let (place, bytes) =
+                            (self.piece.base + from as u64, &self.piece.bytes()[from..to]);
                         crate::StreamHead::new(place, bytes.len() as u64, Some(bytes))
                     }
                     Found::TooLong { place, length } => crate::StreamHead::new(place, length, None),
@@ -153,8 +154,8 @@ macro_rules! telling {
             fn report(&mut self, found: Found) -> crate::StreamReport<'_> {
                 let (place, length, bytes) = match found {
                     Found::Unit { from, to } => {
-                        let place = self.base + from as u64;
-                        (place, (to - from) as u64, &self.buffer[from..to])
+                        let place = self.piece.base + from as u64;
+                        (place, (to - from) as u64, &self.piece.bytes()[from..to])
                     }
                     Found::TooLong { place, length } => {
                         self.lent.too_long();

@@ -4,8 +4,8 @@
 //! hand: where they are too few for the length that stands there, it answers 29, and more are read, until the source has ended.
 
 use crate::headers::{telling, Found, Framing, Lent};
+use crate::piece::{Piece, PIECE};
 use crate::raw;
-use crate::stream::{lengthen, PIECE};
 use crate::{Refusal, Table, LIMIT};
 use std::io::{self, Read};
 
@@ -36,16 +36,11 @@ const BROKEN_LENGTH: u32 = 29;
 /// Damage of a length moves all units behind it: those before it are read as they were, and nothing is said of the others. What is held is a piece of the recording, as by
 /// [`crate::Stream`].
 pub struct LengthFramed<R> {
-    source: R,
-    ended: bool,
+    piece: Piece<R>,
     table: Table,
     /// The limit of a unit: `LIMIT`, but for tests.
     limit: usize,
-    buffer: Vec<u8>,
-    /// How many bytes of the buffer hold the recording, and the place of the first.
-    filled: usize,
-    base: u64,
-    /// The buffer is walked up to here.
+    /// The piece is walked up to here.
     at: usize,
     /// A unit over the limit: the place of its length, the unit's bytes, and how many of them are still to come.
     long: Option<(u64, u64, u64)>,
@@ -67,13 +62,9 @@ impl<R: Read> LengthFramed<R> {
 
     fn with(source: R, table: Table, piece: usize, limit: usize) -> LengthFramed<R> {
         LengthFramed {
-            source,
-            ended: false,
+            piece: Piece::new(source, piece, limit + LENGTH),
             table,
             limit,
-            buffer: vec![0; piece.min(limit + LENGTH)],
-            filled: 0,
-            base: 0,
             at: 0,
             long: None,
             broken: None,
@@ -83,7 +74,7 @@ impl<R: Read> LengthFramed<R> {
 
     /// How far the recording is read; at its end, its length.
     pub fn position(&self) -> u64 {
-        self.base + self.at as u64
+        self.piece.base + self.at as u64
     }
 
     /// Refusal 29 with the place of a broken length, once the units before it have been told: fewer bytes are left than it says, or than it has. It ends the recording.
@@ -94,33 +85,9 @@ impl<R: Read> LengthFramed<R> {
 
     /// Reads from the source once; false where all has been read before.
     pub fn read_more(&mut self) -> io::Result<bool> {
-        if self.ended {
-            return Ok(false);
-        }
-        self.make_room();
-        loop {
-            match self.source.read(&mut self.buffer[self.filled..]) {
-                Ok(0) => self.ended = true,
-                Ok(n) => self.filled += n,
-                Err(e) if e.kind() == io::ErrorKind::Interrupted => continue,
-                Err(e) => return Err(e),
-            }
-            return Ok(true);
-        }
-    }
-
-    /// What has been walked over goes; where a unit is longer than the buffer, that is lengthened.
-    fn make_room(&mut self) {
-        if self.at > 0 {
-            self.buffer.copy_within(self.at..self.filled, 0);
-            self.base += self.at as u64;
-            self.filled -= self.at;
-            self.at = 0;
-        }
-        if self.filled == self.buffer.len() {
-            let more = (self.buffer.len() * 2).clamp(LENGTH, self.limit + LENGTH);
-            lengthen(&mut self.buffer, more);
-        }
+        self.piece.discard(self.at);
+        self.at = 0;
+        self.piece.read_more()
     }
 
     /// The next unit, and whether it is to be read.
@@ -131,7 +98,7 @@ impl<R: Read> LengthFramed<R> {
         if let Some((place, length, left)) = self.long {
             return self.pass_over(place, length, left);
         }
-        let (at, rest) = (self.at, &self.buffer[self.at..self.filled]);
+        let (at, rest) = (self.at, &self.piece.bytes()[self.at..]);
         let length = rest.get(..LENGTH).map(length_of);
         if let Some(length) = length.filter(|n| *n > self.limit) {
             let place = self.position();
@@ -146,14 +113,15 @@ impl<R: Read> LengthFramed<R> {
             (_, Some(length)) if LENGTH + length <= rest.len() => {
                 (at + LENGTH, at + LENGTH + length)
             }
-            _ if self.ended && !rest.is_empty() => return self.end_broken(self.position()),
+            _ if self.piece.ended && !rest.is_empty() => return self.end_broken(self.position()),
             _ => return None,
         };
         if read && step.step == 1 {
             let framed = Framing::Length;
             self.lent.step(framed, &mut self.table, window, 0);
         } else if read {
-            self.lent.unit(&mut self.table, &self.buffer[from..to]);
+            self.lent
+                .unit(&mut self.table, &self.piece.bytes()[from..to]);
         }
         self.at = to;
         Some(Found::Unit { from, to })
@@ -161,12 +129,12 @@ impl<R: Read> LengthFramed<R> {
 
     /// Bytes of a unit over the limit, of which `left` are still to come.
     fn pass_over(&mut self, place: u64, length: u64, left: u64) -> Option<Found> {
-        let here = left.min((self.filled - self.at) as u64);
+        let here = left.min((self.piece.filled - self.at) as u64);
         self.at += here as usize;
         let left = left - here;
         self.long = Some((place, length, left));
         if left > 0 {
-            return match self.ended {
+            return match self.piece.ended {
                 true => self.end_broken(place),
                 false => None,
             };
@@ -179,7 +147,7 @@ impl<R: Read> LengthFramed<R> {
     /// The recording ends at a broken length.
     fn end_broken(&mut self, place: u64) -> Option<Found> {
         self.broken = Some(place);
-        self.at = self.filled;
+        self.at = self.piece.filled;
         None
     }
 }
@@ -273,6 +241,56 @@ mod tests {
             ends += usize::from(end.is_some());
         }
         assert!(over > 1000 && ends > 1000, "{over} {ends}");
+    }
+
+    /// Reading on without asking for what is at hand loses nothing: a piece that is full waits.
+    #[test]
+    fn a_full_piece_waits() {
+        let s = [0, 0, 0, 2, 9, 0xF0].repeat(50);
+        let mut stream = LengthFramed::with(&s[..], Table::new(), 4, 20);
+        for found in 0..50 {
+            for _ in 0..9 {
+                assert!(stream.read_more().unwrap() || found > 40);
+            }
+            let unit = stream.next_head().unwrap().unwrap();
+            assert_eq!(unit.place, 6 * found + 4);
+        }
+        assert!(stream.next_head().unwrap().is_none());
+        assert_eq!((stream.broken(), stream.piece.held()), (None, 24));
+    }
+
+    /// Exposures are those of the recording with start codes, whatever the pieces and the errors between them, and up to a broken length.
+    #[test]
+    fn exposures_are_those_of_start_codes() {
+        let mut random = random(362436069362436069);
+        let (mut all, mut slices, mut ends) = (0, 0, 0);
+        for _ in 0..2_000 {
+            let mut s = vec![];
+            for _ in 0..random(12) {
+                // IDR slices of two idr_pic_id and two QPs, and one that is cut
+                let (id, qp) = ([0x84, 0x82][random(2)], [0xA0, 0x50][random(2)]);
+                let unit = &[0x65, 0x88, id, qp, 0x80][..[5, 5, 1][random(3)]];
+                s.extend((unit.len() as u32).to_be_bytes());
+                s.extend(unit);
+            }
+            let coded = to_start_codes(&s).unwrap();
+            let broken = (random(2) == 0).then_some(s.len() as i64);
+            s.extend(broken.map_or(&[][..], |_| &[0, 0, 9]));
+            let mut table = Table::sample();
+            let mut whole = crate::exposures(reports(&mut table, &coded).unwrap());
+            let source = drops(&s, 1 + random(9), [0, 2, 3][random(3)]);
+            let piece = 1 + random(12);
+            let mut framed = LengthFramed::with(source, Table::sample(), piece, LIMIT).exposures();
+            let found: Vec<_> = framed.by_ref().filter_map(Result::ok).collect();
+            assert_eq!(found, whole.by_ref().collect::<Vec<_>>(), "{s:?}");
+            assert_eq!(framed.totals(), whole.totals(), "{s:?}");
+            assert_eq!(framed.broken().map(|r| r.value), broken, "{s:?}");
+            all += found.len() as u64;
+            slices += framed.totals().slices;
+            ends += usize::from(broken.is_some());
+        }
+        assert!(all > 1000 && slices > all + 1000, "{all} {slices}");
+        assert!(ends > 100, "{ends}");
     }
 
     /// The reports are those of the recording with start codes, places aside, whatever the pieces: sets and slices in turn, some of them damaged.

@@ -42,6 +42,7 @@ mod exposures;
 mod headers;
 mod length;
 mod nal;
+mod piece;
 mod prefix;
 #[doc(hidden)]
 #[allow(rustdoc::broken_intra_doc_links)] // the records' comments speak of bits
@@ -54,6 +55,7 @@ mod stream;
 mod table;
 mod text;
 mod unit;
+mod units;
 mod unparse;
 mod walk;
 mod words;
@@ -78,6 +80,7 @@ pub use stream::{Stream, StreamHead, StreamReport};
 pub use table::{PicParameterSet, Picture, SeqParameterSet, Sequence, Table};
 pub use text::{SetId, WordError};
 pub use unit::{read_unit, Reading, Slice, Unit, UnitHead, UnitReader};
+pub use units::Units;
 pub use walk::{reports, Report, Reports};
 pub use write::write_header;
 

@@ -5,13 +5,14 @@
 //! away a unit's end mark, what is left of it are zero bytes, which the walk drops at a recording's end.
 
 use crate::headers::{telling, Found, Framing, Lent};
+use crate::piece::{Piece, PIECE};
 use crate::raw::{self, HeadOut, ReadOut, Words};
 use crate::{Reading, Refusal, Table, Unit, UnitHead, LIMIT};
 use std::io::{self, Read};
 
 /// A unit of a stream.
 pub struct StreamReport<'a> {
-    /// Where the unit begins, after its start code.
+    /// Where the unit begins, after its start code or its length.
     pub place: u64,
     /// How many bytes it has.
     pub length: u64,
@@ -50,7 +51,7 @@ impl<'a> StreamReport<'a> {
 
 /// A unit of a stream, with its head alone.
 pub struct StreamHead<'a> {
-    /// Where the unit begins, after its start code.
+    /// Where the unit begins, after its start code or its length.
     pub place: u64,
     /// How many bytes it has.
     pub length: u64,
@@ -112,19 +113,14 @@ impl<'a> StreamHead<'a> {
 ///
 /// An error of the source loses nothing: where it may be tried again, the next call goes on where this one stood.
 pub struct Stream<R> {
-    source: R,
-    ended: bool,
+    piece: Piece<R>,
     table: Table,
     /// The limit of a unit and a window: `LIMIT`, but for tests.
     limit: usize,
-    buffer: Vec<u8>,
-    /// How many bytes of the buffer hold the recording, and the place of the first.
-    filled: usize,
-    base: u64,
-    /// The window is the buffer up to here, walked up to `at`.
+    /// The window is the piece up to here, walked up to `at`.
     window: usize,
     at: usize,
-    /// No mark begins before here, but at the buffer's front.
+    /// No mark begins before here, but at the piece's front.
     searched: usize,
     /// A unit over the limit whose end has not come.
     long: Option<Long>,
@@ -137,9 +133,6 @@ struct Long {
     place: u64,
     end: u64,
 }
-
-/// How much is read at a time; the buffer grows where a unit is longer.
-pub(crate) const PIECE: usize = 8 << 20;
 
 impl<R: Read> Stream<R> {
     /// The recording that `source` gives, with an empty table.
@@ -164,13 +157,9 @@ impl<R: Read> Stream<R> {
 
     fn with(source: R, table: Table, piece: usize, limit: usize) -> Stream<R> {
         Stream {
-            source,
-            ended: false,
+            piece: Piece::new(source, piece, limit + 6),
             table,
             limit,
-            buffer: vec![0; piece.min(limit + 6)],
-            filled: 0,
-            base: 0,
             window: 0,
             at: 0,
             searched: 1,
@@ -181,32 +170,12 @@ impl<R: Read> Stream<R> {
 
     /// How far the recording is read; at its end, its length.
     pub fn position(&self) -> u64 {
-        self.base + self.at as u64
+        self.piece.base + self.at as u64
     }
 
     /// Reads from the source once; false where all has been read before.
     pub fn read_more(&mut self) -> io::Result<bool> {
-        if self.ended {
-            return Ok(false);
-        }
-        if self.filled == self.buffer.len() {
-            let more = (self.buffer.len() * 2).min(self.limit + 6);
-            lengthen(&mut self.buffer, more);
-        }
-        let room = &mut self.buffer[self.filled..];
-        if room.is_empty() {
-            // what is at hand was not asked for
-            return Ok(true);
-        }
-        loop {
-            match self.source.read(room) {
-                Ok(0) => self.ended = true,
-                Ok(n) => self.filled += n,
-                Err(e) if e.kind() == io::ErrorKind::Interrupted => continue,
-                Err(e) => return Err(e),
-            }
-            return Ok(true);
-        }
+        self.piece.read_more()
     }
 
     /// The next unit, and whether it is to be read.
@@ -227,12 +196,12 @@ impl<R: Read> Stream<R> {
             if self.cut() {
                 continue;
             }
-            if self.buffer[..self.filled].starts_with(&[0, 0, 1]) {
+            if self.piece.bytes().starts_with(&[0, 0, 1]) {
                 return self.wide_unit(read);
             }
             // these bytes are in no unit, but that a start code may begin in the last two
             let whole = self.whole();
-            let all = self.ended && whole == self.filled;
+            let all = self.piece.ended && whole == self.piece.filled;
             self.discard(whole - if all { 0 } else { whole.min(2) });
             if whole < self.limit + 3 {
                 return None;
@@ -242,7 +211,7 @@ impl<R: Read> Stream<R> {
 
     /// A step of the walk in the window: a unit's place and length, and the place to go on from.
     fn step(&mut self, read: bool) -> Option<(usize, usize, usize)> {
-        let window = &self.buffer[..self.window];
+        let window = &self.piece.bytes()[..self.window];
         if !read {
             let out = raw::next_unit(window, self.at);
             return (out.step == 1).then_some((out.place, out.length, out.next));
@@ -253,12 +222,10 @@ impl<R: Read> Stream<R> {
         (out.step == 1).then_some((out.place, out.length, out.next))
     }
 
-    /// Drops the buffer's first bytes; the window is then empty.
+    /// Drops the piece's first bytes; the window is then empty.
     fn discard(&mut self, n: usize) {
         if n > 0 {
-            self.buffer.copy_within(n..self.filled, 0);
-            self.base += n as u64;
-            self.filled -= n;
+            self.piece.discard(n);
             self.searched = 1;
         }
         (self.window, self.at) = (0, 0);
@@ -266,11 +233,11 @@ impl<R: Read> Stream<R> {
 
     /// Sets the window: all that is left, or up to the last mark that is not at the front. False where neither is within the limit.
     fn cut(&mut self) -> bool {
-        if self.ended && self.filled <= self.limit {
-            self.window = self.filled;
+        if self.piece.ended && self.piece.filled <= self.limit {
+            self.window = self.piece.filled;
         } else {
             let whole = self.whole();
-            match last_mark(&self.buffer[..whole], self.searched) {
+            match last_mark(&self.piece.bytes()[..whole], self.searched) {
                 Some(last) => self.window = last,
                 None => self.searched = self.searched.max(whole.saturating_sub(2)),
             }
@@ -280,31 +247,31 @@ impl<R: Read> Stream<R> {
 
     /// How many bytes are at hand, as far as a window can end in them.
     fn whole(&self) -> usize {
-        self.filled.min(self.limit + 3)
+        self.piece.filled.min(self.limit + 3)
     }
 
     /// The unit at the front, where no window ends behind it: with its start code it is over the limit, or its end has not come.
     fn wide_unit(&mut self, read: bool) -> Option<Found> {
         let from = self.searched.max(3);
-        let end = mark(&self.buffer[from..self.filled]).map(|end| end + from);
-        if end.is_none() && !self.ended {
-            if self.filled < self.limit + 6 {
+        let end = mark(&self.piece.bytes()[from..]).map(|end| end + from);
+        if end.is_none() && !self.piece.ended {
+            if self.piece.filled < self.limit + 6 {
                 return None;
             }
-            let (place, end) = (self.base + 3, self.last_byte());
+            let (place, end) = (self.piece.base + 3, self.last_byte());
             self.long = Some(Long { place, end });
-            self.discard(self.filled - 2);
+            self.discard(self.piece.filled - 2);
             return None;
         }
-        let to = end.unwrap_or_else(|| (self.last_byte() - self.base) as usize);
-        let done = end.unwrap_or(self.filled);
+        let to = end.unwrap_or_else(|| (self.last_byte() - self.piece.base) as usize);
+        let done = end.unwrap_or(self.piece.filled);
         (self.window, self.at) = (done, done);
         if to > 3 + self.limit {
-            let (place, length) = (self.base + 3, to as u64 - 3);
+            let (place, length) = (self.piece.base + 3, to as u64 - 3);
             return Some(Found::TooLong { place, length });
         }
         if read {
-            self.lent.unit(&mut self.table, &self.buffer[3..to]);
+            self.lent.unit(&mut self.table, &self.piece.bytes()[3..to]);
         }
         Some(Found::Unit { from: 3, to })
     }
@@ -313,12 +280,12 @@ impl<R: Read> Stream<R> {
     fn long_end(&mut self) -> Option<Found> {
         let long = self.long?;
         let seen = long.end.max(self.last_byte());
-        let (end, done) = match mark(&self.buffer[..self.filled]) {
-            Some(found) => (self.base + found as u64, found),
-            None if self.ended => (seen, self.filled),
+        let (end, done) = match mark(self.piece.bytes()) {
+            Some(found) => (self.piece.base + found as u64, found),
+            None if self.piece.ended => (seen, self.piece.filled),
             None => {
                 self.long = Some(Long { end: seen, ..long });
-                self.discard(self.filled.saturating_sub(2));
+                self.discard(self.piece.filled.saturating_sub(2));
                 return None;
             }
         };
@@ -328,10 +295,10 @@ impl<R: Read> Stream<R> {
         Some(Found::TooLong { place, length })
     }
 
-    /// The place after the buffer's last byte that is not zero; 0 where there is none.
+    /// The place after the piece's last byte that is not zero; 0 where there is none.
     fn last_byte(&self) -> u64 {
-        let last = self.buffer[..self.filled].iter().rposition(|b| *b != 0);
-        last.map_or(0, |i| self.base + i as u64 + 1)
+        let last = self.piece.bytes().iter().rposition(|b| *b != 0);
+        last.map_or(0, |i| self.piece.base + i as u64 + 1)
     }
 }
 
@@ -339,14 +306,6 @@ telling!(
     Stream,
     "The next unit; nothing at the end. A unit is there as soon as its end mark has come."
 );
-
-/// Makes it so long at least, and no longer: a unit can have as many bytes as nearly all of what we promise to need.
-pub(crate) fn lengthen(bytes: &mut Vec<u8>, length: usize) {
-    if bytes.len() < length {
-        bytes.reserve_exact(length - bytes.len());
-        bytes.resize(length, 0);
-    }
-}
 
 /// The first place of a mark: two zeros and a byte up to 1.
 fn mark(s: &[u8]) -> Option<usize> {
@@ -534,9 +493,9 @@ pub(crate) mod tests {
             let mut stream = Stream::with(drops(&s, 1, 0), Table::new(), piece, limit);
             while let Some(r) = stream.next_unit().unwrap() {
                 let needed = (r.place + r.length + 3).min(s.len() as u64);
-                let given = s.len() - stream.source.bytes.len();
+                let given = stream.piece.base + stream.piece.filled as u64;
                 // the byte behind a start code shows whether it was one
-                assert!(given as u64 <= needed, "{s:?}");
+                assert!(given <= needed, "{s:?}");
             }
         }
     }
@@ -587,6 +546,6 @@ pub(crate) mod tests {
             assert_eq!((r.place, r.length), (place, 1));
         }
         assert!(stream.next_unit().unwrap().is_none());
-        assert_eq!((stream.buffer.len(), stream.position()), (64, 200_008));
+        assert_eq!((stream.piece.held(), stream.position()), (64, 200_008));
     }
 }

@@ -1,6 +1,5 @@
 use native.Mathlib.Omega.{arith}
-use mathlib.Core.Path.{_≡_, sym, _∙_}
-use mathlib.Core.Bool.{Bool, true, false}
+use mathlib.Core.Path.{sym}
 use Rattle.bits.proofs.Reading.{ue-past, fixed-out}
 use Rattle.bits.proofs.Results.{cases}
 use borrow.Author.Needs.{needs}
