@@ -1,4 +1,3 @@
-pub mod Known
 pub mod Opened
 pub mod Cases
 pub mod Examples
@@ -7,3 +6,4 @@ pub mod Held
 pub mod Tidy
 pub mod Whole
 pub mod Pair
+pub mod Known

@@ -66,7 +66,7 @@ module _ (unit : List ℕ) {r : Refusal} where
   first-refused (NalHeaderRead.Got h) q = typed-refused h q
   first-refused (NalHeaderRead.Refused d) q = passed q
 
-  begun-refused : headOf unit ≡ HeadRead.Refused r → begun unit ≡ Begun.Refused r
+  pub begun-refused : headOf unit ≡ HeadRead.Refused r → begun unit ≡ Begun.Refused r
   unfolding headOf begun
   begun-refused q =
       cases (leb (length unit) limit)
@@ -74,6 +74,9 @@ module _ (unit : List ℕ) {r : Refusal} where
       (λ i. rw i (passed (rw i at q)))
 
 -- ---- the pair
+
+pub own-head : (unit : List ℕ) {h : UnitHead} → headOf unit ≡ HeadRead.Got h → sameHead h (headOf unit) ≡ true
+own-head unit {h} q = rw q (equal-same h)
 
 module _ (t : Table) (unit scratch : List ℕ) where
   pub head-refused : {r : Refusal} → headOf unit ≡ HeadRead.Refused r → unitRead t unit scratch ≡ untouched (UnitAnswer.Refused r) scratch
@@ -90,7 +93,7 @@ module _ (t : Table) (unit scratch : List ℕ) where
   body-other h e = rw e
 
   pub head-given : {h : UnitHead} → headOf unit ≡ HeadRead.Got h → bodyRead t h unit scratch ≡ unitRead t unit scratch
-  head-given {h} q = body-own h (rw q (equal-same h))
+  head-given {h} q = body-own h (own-head unit q)
 
   pub pair : unitRead t unit scratch ≡ inTurn t unit scratch (headOf unit)
   pair = go (headOf unit) refl

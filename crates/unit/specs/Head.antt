@@ -54,10 +54,13 @@ abbrev pub sameHead : UnitHead → HeadRead → Bool
 sameHead h (HeadRead.Got g) = equal h g
 sameHead h (HeadRead.Refused r) = false
 
--- the body of a unit whose head is given: 34 first, with scratch untouched; then as `unitRead`
+-- what is read of a unit whose head is given: 34 first, with scratch untouched
+abbrev pub byHead : UnitHead → List ℕ → List ℕ → UnitOut → UnitOut
+byHead h unit scratch read = pick (sameHead h (headOf unit)) read (untouched (UnitAnswer.Refused (refusal notItsHead (pos 0))) scratch)
+
+-- the body of a unit whose head is given
 unfoldable pub bodyRead : Table → UnitHead → List ℕ → List ℕ → UnitOut
-bodyRead t h unit scratch =
-    pick (sameHead h (headOf unit)) (unitRead t unit scratch) (untouched (UnitAnswer.Refused (refusal notItsHead (pos 0))) scratch)
+bodyRead t h unit scratch = byHead h unit scratch (unitRead t unit scratch)
 
 -- the two, used in turn
 abbrev pub inTurn : Table → List ℕ → List ℕ → HeadRead → UnitOut

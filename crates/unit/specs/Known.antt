@@ -13,7 +13,9 @@ use Rattle.table.specs.declared.table.Table.{Table}
 use Rattle.unit.specs.declared.answer.UnitAnswer.{UnitAnswer}
 use Rattle.unit.specs.declared.answer.UnitRead.{UnitRead}
 use Rattle.unit.specs.declared.begin.Begun.{Begun}
+use Rattle.unit.specs.declared.head.UnitHead.{UnitHead}
 use Rattle.unit.specs.Begin.{begun}
+use Rattle.unit.specs.Head.{byHead}
 use Rattle.unit.specs.Unit.{UnitOut, untouched, sliceBits, prefixBits, sequenceBits, pictureBits}
 
 -- as `inBody`
@@ -33,3 +35,7 @@ afterKnown known t unit scratch (Begun.Refused r) = untouched (UnitAnswer.Refuse
 
 unfoldable pub unitKnown : ℕ → Table → List ℕ → List ℕ → UnitOut
 unitKnown known t unit scratch = afterKnown known t unit scratch (begun unit)
+
+-- the body of a unit whose head is given
+unfoldable pub bodyKnown : ℕ → Table → UnitHead → List ℕ → List ℕ → UnitOut
+bodyKnown known t h unit scratch = byHead h unit scratch (unitKnown known t unit scratch)

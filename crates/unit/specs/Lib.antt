@@ -1,6 +1,6 @@
 pub mod Answer
 pub mod Begin
 pub mod Unit
-pub mod Known
 pub mod Head
+pub mod Known
 pub mod Into

@@ -31,7 +31,7 @@ ghost use lib.ListN.{length};
 ghost use Rattle.bits.specs.Refusals.{limit};
 ghost use Rattle.header.specs.Lead.{tableOf};
 ghost use Rattle.unit.specs.Unit.{sliceBits, prefixBits, sequenceBits, pictureBits};
-ghost use Rattle.unit.specs.Known.{inKnown, unitKnown};
+ghost use Rattle.unit.specs.Known.{inKnown, unitKnown, bodyKnown};
 ghost use Rattle.unit.specs.Head.{bodyRead};
 ghost use Rattle.header.specs.Short.{HeaderWords, headerWords};
 ghost use Rattle.unit.specs.Into.{Lent, lentWords, blank, sliceShort, bodyShort, sequenceShort, pictureShort, Taken, ReadInto};
@@ -220,11 +220,8 @@ pub fn clear_words(
     clear_list(base);
 }
 
-// A unit, by the sets in a table's two arrays, for a caller who knows that no 00 00 03 begins before `known`; 0 where nothing is known. Bytes before it are taken as
-// they stand, and not searched. Until the body is known to fit, scratch is untouched; after that it starts with the body, whatever the answer. A slice's header goes to
-// the words of its fields and lists, over zeros where the counts said that a list was, and a prefix unit's list to `base`, over zeros; all other words stay as they
-// were. Beside a refusal all words are zeros.
-pub fn read_known_into<'a>(
+// A unit whose head has been compared.
+fn read_into<'a>(
     sequences: &'a [u32; 224],
     pictures: &'a [u32; 2304],
     unit: &[u8],
@@ -268,7 +265,50 @@ pub fn read_known_into<'a>(
     }
 }
 
-// The body of a unit, for whoever has its head (`head::head`); another's head is 34, before all else. Then as `read_known_into`, where nothing is known.
+// The body of a unit, for whoever has its head (`head::head`) and knows that no 00 00 03 begins before `known`; 0 where nothing is known. Another's head is 34,
+// before all else. The unit is read by the sets in a table's two arrays; its bytes before `known` are taken as they stand, and not searched. Until the body is known to
+// fit, scratch is untouched; after that it starts with the body, whatever the answer. A slice's header goes to the words of its fields and lists, over zeros where the
+// counts said that a list was, and a prefix unit's list to `base`, over zeros; all other words stay as they were. Beside a refusal all words are zeros.
+pub fn read_known_into<'a>(
+    head: UnitHead,
+    sequences: &'a [u32; 224],
+    pictures: &'a [u32; 2304],
+    unit: &[u8],
+    known: usize,
+    scratch: &mut [u8],
+    numbers: &mut [u32; 57],
+    signed: &mut [i32; 7],
+    l0: &mut [u32; 198],
+    l1: &mut [u32; 198],
+    marking: &mut [u32; 198],
+    w0: &mut [i32; 256],
+    w1: &mut [i32; 256],
+    base: &mut [u32; 198],
+) -> ShortAnswer
+    ensures { λ r. ⌜ ReadInto (bodyKnown known (tableOf (now (sequences .entry)) (now (pictures .entry))) head (now (unit .entry)) (now (scratch .entry))) r (now (scratch .exit)) (lentWords numbers signed l0 l1 marking w0 w1 base .entry) (lentWords numbers signed l0 l1 marking w0 w1 base .exit) ⌝ }
+{
+    if !is_head_of(head, unit) {
+        clear_words(numbers, signed, l0, l1, marking, w0, w1, base);
+        return ShortAnswer::Refused(refuse(NOT_ITS_HEAD, 0));
+    }
+    read_into(
+        sequences,
+        pictures,
+        unit,
+        known,
+        scratch,
+        numbers,
+        signed,
+        l0,
+        l1,
+        marking,
+        w0,
+        w1,
+        base,
+    )
+}
+
+// The same where nothing is known.
 pub fn read_body_into<'a>(
     head: UnitHead,
     sequences: &'a [u32; 224],
@@ -286,11 +326,8 @@ pub fn read_body_into<'a>(
 ) -> ShortAnswer
     ensures { λ r. ⌜ ReadInto (bodyRead (tableOf (now (sequences .entry)) (now (pictures .entry))) head (now (unit .entry)) (now (scratch .entry))) r (now (scratch .exit)) (lentWords numbers signed l0 l1 marking w0 w1 base .entry) (lentWords numbers signed l0 l1 marking w0 w1 base .exit) ⌝ }
 {
-    if !is_head_of(head, unit) {
-        clear_words(numbers, signed, l0, l1, marking, w0, w1, base);
-        return ShortAnswer::Refused(refuse(NOT_ITS_HEAD, 0));
-    }
     read_known_into(
+        head,
         sequences,
         pictures,
         unit,

@@ -1,9 +1,5 @@
-use mathlib.Core.Path.{sym, _∙_}
-use borrow.Author.Tests.{not-true, not-false}
 use Rattle.header.specs.Lead.{tableOf}
-use Rattle.unit.proofs.Held.{refused-into}
-use Rattle.unit.proofs.Known.{none-known}
-use Rattle.unit.proofs.Pair.{body-own, body-other}
+use Rattle.unit.proofs.Known.{none-known-body}
 use borrow.Author.Needs.{needs}
 use Rattle.unit.proofs.into.read_body_into.Statement.{statement}
 use Rattle.unit.proofs.into.read_body_into.Tie as tie
@@ -11,23 +7,7 @@ use Rattle.unit.proofs.into.read_body_into.Tie as tie
 returns : tie.Need-returns
 returns c =
     let a = c .before .before .before .before .before .before .before .before .before .before .before .before .before .before .args in
-    let e = sym (c .before .before .before .before .before .before .before .before .before .before .before .is-head-of .ensures) ∙ not-true _ (c .before .before .before .before .before .before .before .before .before .before .if1 .taken) in
-    rw (c .refuse .ensures) (refused-into (body-other (tableOf (a .sequences .now) (a .pictures .now)) (a .unit .now) (a .scratch .now) (a .head) e) _ (c .before .clear-words .ensures))
-
-returns-2 : tie.Need-returns-2
-returns-2 c =
-    let a = c .before .before .before .before .before .before .before .before .before .before .before .before .before .before .before .before .args in
-    let e = sym (c .before .before .before .before .before .before .before .before .before .before .before .before .before .is-head-of .ensures) ∙ not-false _ (c .before .before .before .before .before .before .before .before .before .before .before .before .if1 .left) in
-    rw (body-own (tableOf (a .sequences .now) (a .pictures .now)) (a .unit .now) (a .scratch .now) (a .head) e, ← none-known (a .unit .now) (a .scratch .now) (tableOf (a .sequences .now) (a .pictures .now))) (c .before .before .read-known-into .ensures)
+    rw (← none-known-body (tableOf (a .sequences .now) (a .pictures .now)) (a .head) (a .unit .now) (a .scratch .now)) (c .before .before .read-known-into .ensures)
 
 pub read-body-into-spec : {M : Type 1} → statement M
-read-body-into-spec =
-    tie.close
-    (tie.spec
-    (λ c κs. search needs)
-    (λ c κs. search needs)
-    (λ c κs. search needs)
-    returns
-    (λ c κs. search needs)
-    (λ c. search needs)
-    returns-2)
+read-body-into-spec = tie.close (tie.spec (λ c κs. search needs) (λ c. search needs) returns)

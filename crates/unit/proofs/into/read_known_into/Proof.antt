@@ -1,48 +1,32 @@
-use Rattle.unit.specs.declared.into.ShortAnswer.{ShortAnswer}
-use Rattle.unit.proofs.Held.{kept, cleared}
+use mathlib.Core.Path.{sym, _∙_}
+use borrow.Author.Tests.{not-true, not-false}
+use Rattle.header.specs.Lead.{tableOf}
+use Rattle.unit.proofs.Held.{refused-into}
+use Rattle.unit.proofs.Known.{known-own, known-other}
 use borrow.Author.Needs.{needs}
 use Rattle.unit.proofs.into.read_known_into.Statement.{statement}
 use Rattle.unit.proofs.into.read_known_into.Tie as tie
 
 returns : tie.Need-returns
-returns c = kept (c .before .before .before .before .before .take .ensures) (ShortAnswer.Slice _) (c .before .n .given .1) (λ h. h)
+returns c =
+    let a = c .before .before .before .before .before .before .before .before .before .before .before .before .before .before .args in
+    let e = sym (c .before .before .before .before .before .before .before .before .before .before .before .is-head-of .ensures) ∙ not-true _ (c .before .before .before .before .before .before .before .before .before .before .if1 .taken) in
+    rw (c .refuse .ensures) (refused-into (known-other (a .known) (tableOf (a .sequences .now) (a .pictures .now)) (a .unit .now) (a .scratch .now) (a .head) e) _ (c .before .clear-words .ensures))
 
 returns-2 : tie.Need-returns-2
-returns-2 c = kept (c .before .before .before .before .before .take .ensures) (ShortAnswer.«Prefix» _) (c .before .p .given .1) (λ h. h)
-
-returns-3 : tie.Need-returns-3
-returns-3 c = kept (c .before .before .before .before .before .take .ensures) (ShortAnswer.Sequence _) (c .before .v .given .1) (λ h. h)
-
-returns-4 : tie.Need-returns-4
-returns-4 c = kept (c .before .before .before .before .before .take .ensures) (ShortAnswer.Picture _) (c .before .v2 .given .1) (λ h. h)
-
-returns-5 : tie.Need-returns-5
-returns-5 c = kept (c .before .before .before .before .before .take .ensures) (ShortAnswer.Other _) (c .before .id .given .1) (λ h. h)
-
-returns-6 : tie.Need-returns-6
-returns-6 c = cleared (c .before .before .before .before .before .before .before .before .before .before .before .before .before .before .take .ensures) _ (c .before .before .before .before .before .before .before .before .before .before .r .given .1) (c .clear-words .ensures)
+returns-2 c =
+    let a = c .before .before .before .before .before .before .before .before .before .before .before .before .before .before .before .before .args in
+    let e = sym (c .before .before .before .before .before .before .before .before .before .before .before .before .before .is-head-of .ensures) ∙ not-false _ (c .before .before .before .before .before .before .before .before .before .before .before .before .if1 .left) in
+    rw (known-own (a .known) (tableOf (a .sequences .now) (a .pictures .now)) (a .unit .now) (a .scratch .now) (a .head) e) (c .before .before .read-into .ensures)
 
 pub read-known-into-spec : {M : Type 1} → statement M
 read-known-into-spec =
     tie.close
     (tie.spec
     (λ c κs. search needs)
-    (λ c. search needs)
-    (λ c. search needs)
-    (λ c. search needs)
-    (λ c. search needs)
-    (λ c. search needs)
-    (λ c. search needs)
+    (λ c κs. search needs)
+    (λ c κs. search needs)
+    returns
     (λ c κs. search needs)
     (λ c. search needs)
-    returns
-    (λ c. search needs)
-    returns-2
-    (λ c. search needs)
-    returns-3
-    (λ c. search needs)
-    returns-4
-    (λ c. search needs)
-    returns-5
-    (λ c. search needs)
-    returns-6)
+    returns-2)

@@ -5,7 +5,7 @@ use Rattle.walk.proofs.turn.body_in_turn.Tie as tie
 
 returns : tie.Need-returns
 returns c =
-    let g = c .before .before .before .before .before .read-known-into .ensures in
+    let g = c .before .before .before .before .before .read-unit .ensures in
     record { answered = g .answered; left = g .left; table = long-short _ _ (g .answered) (c .keep-set .ensures); words = g .words }
 
 pub body-in-turn-spec : {M : Type 1} → statement M
