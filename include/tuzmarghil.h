@@ -354,8 +354,8 @@ void tuz_to_start_codes(tuz_ConvertedOut *result, const uint8_t *recording, size
 /* The units of a recording with start codes, each behind its length. A refusal leaves the output as it was; 26 has the bytes that are needed. */
 void tuz_to_lengths(tuz_ConvertedOut *result, const uint8_t *recording, size_t recording_len, uint8_t *out, size_t out_len);
 
-/* One step of the walk from a place on, as `tuz_walk` has it, but that slices and prefix units are read from the recording itself: scratch needs as many bytes as the longest parameter set (types 7 and 8) has, and holds no slice's body. */
-void tuz_walk_headers(tuz_WalkOut *result, uint32_t sequences[224], uint32_t pictures[2304], const uint8_t *recording, size_t recording_len, size_t from, uint8_t *scratch, size_t scratch_len, uint32_t numbers[57], int32_t signed_numbers[7], uint32_t l0[198], uint32_t l1[198], uint32_t marking[198], int32_t w0[256], int32_t w1[256], uint32_t base[198]);
+/* One step of the walk from a place on, as `tuz_walk` has it, but that units are read from the recording itself, with no scratch: no body is handed on, and 26 does not come. */
+void tuz_walk_headers(tuz_WalkOut *result, uint32_t sequences[224], uint32_t pictures[2304], const uint8_t *recording, size_t recording_len, size_t from, uint32_t numbers[57], int32_t signed_numbers[7], uint32_t l0[198], uint32_t l1[198], uint32_t marking[198], int32_t w0[256], int32_t w1[256], uint32_t base[198]);
 
 /* What a unit's first bytes say. `tuz_body` takes the answer's `head`, and reads the body. */
 tuz_HeadOut tuz_head(const uint8_t *unit, size_t unit_len);
@@ -366,7 +366,7 @@ uint32_t tuz_layout(void);
 void tuz_next_framed(tuz_StepOut *result, const uint8_t *recording, size_t recording_len, size_t from);
 
 /* One step of the walk over it, which reads headers alone, as `tuz_walk_headers` does. */
-void tuz_walk_framed_headers(tuz_WalkOut *result, uint32_t sequences[224], uint32_t pictures[2304], const uint8_t *recording, size_t recording_len, size_t from, uint8_t *scratch, size_t scratch_len, uint32_t numbers[57], int32_t signed_numbers[7], uint32_t l0[198], uint32_t l1[198], uint32_t marking[198], int32_t w0[256], int32_t w1[256], uint32_t base[198]);
+void tuz_walk_framed_headers(tuz_WalkOut *result, uint32_t sequences[224], uint32_t pictures[2304], const uint8_t *recording, size_t recording_len, size_t from, uint32_t numbers[57], int32_t signed_numbers[7], uint32_t l0[198], uint32_t l1[198], uint32_t marking[198], int32_t w0[256], int32_t w1[256], uint32_t base[198]);
 
 /* A unit's line: its place and length in the recording, its bytes, which only a prefix unit's line looks at, `answer`, `number`, `value`, `has_bit` and `bit` of its ReadOut, and the words of a slice's fields. */
 size_t tuz_unit_line(uint8_t line[128], const uint32_t pictures[2304], size_t place, size_t length, const uint8_t *unit, size_t unit_len, uint32_t answer, uint8_t number, int64_t value, bool has_bit, size_t bit, const uint32_t numbers[57], const int32_t signed_numbers[7]);

@@ -7,8 +7,6 @@ use crate::peers::Found;
 
 const SLICE: u32 = 1;
 const A_UNIT: u32 = 1;
-/// Scratch that is enough for every parameter set of the recordings.
-const SETS: usize = 256;
 const NO_EXTENSION: ExtensionGiven = ExtensionGiven {
     there: false,
     b1: 0,
@@ -84,14 +82,16 @@ pub fn walk<'a>(
     walk_all(raw::walk, table, vec![recording], longest)
 }
 
-/// The walk that reads headers alone: scratch is for parameter sets.
+/// The walk that reads headers alone.
 pub fn headers_walk<'a>(table: &'a Table, recording: &'a [u8]) -> impl FnMut() -> Found + 'a {
-    walk_all(raw::walk_headers, table, vec![recording], SETS)
+    let step: Step = |t, r, from, _, words, out| raw::walk_headers(t, r, from, words, out);
+    walk_all(step, table, vec![recording], 0)
 }
 
 /// The same over a recording framed by length.
 pub fn framed_walk<'a>(table: &'a Table, recording: &'a [u8]) -> impl FnMut() -> Found + 'a {
-    walk_all(raw::walk_framed_headers, table, vec![recording], SETS)
+    let step: Step = |t, r, from, _, words, out| raw::walk_framed_headers(t, r, from, words, out);
+    walk_all(step, table, vec![recording], 0)
 }
 
 /// A walk over recordings, one after the other.

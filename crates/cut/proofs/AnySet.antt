@@ -54,7 +54,7 @@ unfolding digits
 drop-digits zero n v = rw (zero-add n)
 drop-digits (suc k) n v = rw (suc-add k n) (drop-digits k n v)
 
-drop-bytes : (i k : ℕ) (s : List ℕ) → drop (8 * i + k) (bytesBits s) ≡ drop k (bytesBits (drop i s))
+pub drop-bytes : (i k : ℕ) (s : List ℕ) → drop (8 * i + k) (bytesBits s) ≡ drop k (bytesBits (drop i s))
 unfolding bytesBits
 drop-bytes zero k s = rw (zero-add k)
 drop-bytes (suc i) k [] = rw (drop-nil (8 * suc i + k), drop-nil k)

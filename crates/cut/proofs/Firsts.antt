@@ -42,13 +42,13 @@ module _ (unit : List ℕ) (from end : ℕ) (local : List ℕ) (h : end ≤ leng
 -- ---- the array
 
 -- what stands at the front of an array that has room for it
-held : (x : List ℕ) (local : List ℕ) → length x ≤ length local → {r : ℕ} {z : List ℕ} → r ≡ length x → z ≡ startWith x local → (r ≤ length z) × (take r z ≡ x)
+pub held : (x : List ℕ) (local : List ℕ) → length x ≤ length local → {r : ℕ} {z : List ℕ} → r ≡ length x → z ≡ startWith x local → (r ≤ length z) × (take r z ≡ x)
 held x local l {r} {z} p q =
     let e : length z ≡ length local = ap length q ∙ same-room x local l in
     (omega arith, rw (p, q) (front x local))
 
 -- and a byte behind it
-one-more : (x local : List ℕ) (a : ℕ) → length x < length local → set (startWith x local) (length x) a ≡ startWith (x ++ (a ∷ [])) local
+pub one-more : (x local : List ℕ) (a : ℕ) → length x < length local → set (startWith x local) (length x) a ≡ startWith (x ++ (a ∷ [])) local
 one-more x local a h =
     let k : suc (length x) ≡ length (x ++ (a ∷ [])) = omega (arith, length-append x (a ∷ [])) in
     ap (λ (l : List ℕ). set (x ++ l) (length x) a) (drop-cons local (length x) 0 h)

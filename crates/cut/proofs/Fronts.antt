@@ -111,9 +111,6 @@ module _ (k : PrefixKind) (s : Bits) where
   pub prefix-no : (r : Bits) (x : Refusal) → prefix k .read s 0 ≡ no x → (x .number ≡ 5 → ⊥) → prefix k .read (s ++ r) 0 ≡ no x
   prefix-no r x q f = on-no (ahead-prefix r) q f
 
-  pub prefix-far : (x r : Bits) → 12540 ≤ length s → prefix k .read (s ++ x) 0 ≡ prefix k .read (s ++ r) 0
-  prefix-far x r l = on-room (ahead-prefix x) (omega arith) ∙ sym (on-room (ahead-prefix r) (omega arith))
-
 -- ---- a unit
 
 -- a byte that stands for bits
@@ -128,7 +125,7 @@ module _ (unit : List ℕ) (from : ℕ) (few : from ≤ 4) where
     abbrev S : Bits
     S = bodyBits (take far unit) from
 
-    S-long : 63174 ≤ length (bodyBits (take far unit) from)
+    S-long : 65520 ≤ length (bodyBits (take far unit) from)
     S-long =
         omega (
           arith,
@@ -148,14 +145,12 @@ module _ (unit : List ℕ) (from : ℕ) (few : from ≤ 4) where
     long-header : (t : Table) (n : UnitKind) → readHeader t n (bytesBits (farBody unit from)) ≡ readHeader t n (bodyBits unit from)
     long-header t n =
         ap (readHeader t n) far-bytes
-        ∙ far-same t n S (bytesBits (pick (anySet (behindBits unit from far)) 1 0 ∷ [])) (behindBits unit from far) S-long (byte-set (anySet (behindBits unit from far)))
+        ∙ far-same t n S (bytesBits (pick (anySet (behindBits unit from far)) 1 0 ∷ [])) (behindBits unit from far) (omega (arith, S-long)) (byte-set (anySet (behindBits unit from far)))
         ∙ sym (ap (readHeader t n) cut-far)
 
-    long-prefix : (k : PrefixKind) → prefix k .read (bytesBits (farBody unit from)) 0 ≡ prefix k .read (bodyBits unit from) 0
-    long-prefix k =
-        ap (λ (b : Bits). prefix k .read b 0) far-bytes
-        ∙ prefix-far k S (bytesBits (pick (anySet (behindBits unit from far)) 1 0 ∷ [])) (behindBits unit from far) (omega (arith, S-long))
-        ∙ sym (ap (λ (b : Bits). prefix k .read b 0) cut-far)
+    -- what looks at no bit from 65,520 on
+    long-any : {A : Type 0} (f : Bits → A) → ((s r : Bits) → 65520 ≤ length s → f (s ++ r) ≡ f s) → f (bytesBits (farBody unit from)) ≡ f (bodyBits unit from)
+    long-any f h = ap f far-bytes ∙ h S _ S-long ∙ sym (h S (behindBits unit from far) S-long) ∙ sym (ap f cut-far)
 
   -- one that is short is read whole
   short-bytes : length unit ≤ far → bytesBits (farBody unit from) ≡ bodyBits unit from
@@ -169,9 +164,12 @@ module _ (unit : List ℕ) (from : ℕ) (few : from ≤ 4) where
       go true h = ap (readHeader t n) (short-bytes (leb-true (length unit) far h))
       go false h = long-header (leb-false (length unit) far h) t n
 
-  pub far-prefix : (k : PrefixKind) → prefix k .read (bytesBits (farBody unit from)) 0 ≡ prefix k .read (bodyBits unit from) 0
-  far-prefix k = go (leb (length unit) far) refl
+  pub far-any : {A : Type 0} (f : Bits → A) → ((s r : Bits) → 65520 ≤ length s → f (s ++ r) ≡ f s) → f (bytesBits (farBody unit from)) ≡ f (bodyBits unit from)
+  far-any {A} f h = go (leb (length unit) far) refl
     where
-      go : (b : Bool) → leb (length unit) far ≡ b → prefix k .read (bytesBits (farBody unit from)) 0 ≡ prefix k .read (bodyBits unit from) 0
-      go true h = ap (λ (b : Bits). prefix k .read b 0) (short-bytes (leb-true (length unit) far h))
-      go false h = long-prefix (leb-false (length unit) far h) k
+      go : (b : Bool) → leb (length unit) far ≡ b → f (bytesBits (farBody unit from)) ≡ f (bodyBits unit from)
+      go true e = ap f (short-bytes (leb-true (length unit) far e))
+      go false e = long-any (leb-false (length unit) far e) f h
+
+  pub far-prefix : (k : PrefixKind) → prefix k .read (bytesBits (farBody unit from)) 0 ≡ prefix k .read (bodyBits unit from) 0
+  far-prefix k = far-any (λ (b : Bits). prefix k .read b 0) (λ s r l. on-room (ahead-prefix k s r) (omega arith))

@@ -3,3 +3,4 @@ pub mod Seams
 pub mod Firsts
 pub mod Bytes
 pub mod Fronts
+pub mod Tails

@@ -43,3 +43,7 @@ far = 12288
 unfoldable pub farBody : List ℕ → ℕ → List ℕ
 farBody unit from =
     pick (leb (length unit) far) (body 0 (drop from unit)) (body 0 (drop from (take far unit)) ++ (pick (anySet (behindBits unit from far)) 1 0 ∷ []))
+
+-- the body from its byte k on, 256 bytes of it or all that there are
+abbrev pub tailBody : List ℕ → ℕ → ℕ → List ℕ
+tailBody unit from k = take 256 (drop k (body 0 (drop from unit)))

@@ -11,18 +11,25 @@ ghost use Rattle.syntax.specs.SliceHeader.{anySet};
 ghost use Rattle.cut.specs.Seam.{zerosOver};
 
 // How many zero bytes stand right before the byte after `a`, where `z` stand before `a`.
-fn zeros_after(z: usize, a: u8) -> usize
+pub(crate) fn zeros_after(z: usize, a: u8) -> usize
     requires { ⌜ z < 9223372036854775808 ⌝ }
     ensures { λ r. ⌜ r ≡ zeros z a ⌝ }
 {
     if a == 0 { z + 1 } else { 0 }
 }
 
+// Whether a byte is dropped.
+pub(crate) fn is_dropped(z: usize, a: u8) -> bool
+    ensures { λ r. ⌜ r ≡ drops z a ⌝ }
+{
+    both(2 <= z, a == 3)
+}
+
 // Whether a byte is kept and has a bit set.
 fn stands(z: usize, a: u8) -> bool
     ensures { λ r. ⌜ r ≡ not (drops z a) && not (eqb a 0) ⌝ }
 {
-    both(!both(2 <= z, a == 3), a != 0)
+    both(!is_dropped(z, a), a != 0)
 }
 
 // How many zero bytes stand right before `to`, from `from` on.

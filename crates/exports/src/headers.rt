@@ -3,20 +3,20 @@ use crate::walks::WalkOut;
 use crate::walks::walk_told;
 use walk::headers::walk_headers_into;
 ghost use mathlib.Core.Path.{_≡_};
+ghost use mathlib.Core.List.{[]};
 ghost use Rattle.header.specs.Lead.{tableOf};
 ghost use Rattle.unit.specs.Into.{lentWords, wordsAfter};
 ghost use Rattle.walk.specs.Headers.{walkedHeaders};
 ghost use Rattle.exports.specs.Walks.{walkOut};
 
-// One step of the walk from a place on, as `tuz_walk` has it, but that slices and prefix units are read from the recording itself: scratch needs as many bytes as the
-// longest parameter set (types 7 and 8) has, and holds no slice's body.
+// One step of the walk from a place on, as `tuz_walk` has it, but that units are read from the recording itself, with no scratch: no body is handed on, and 26 does not
+// come.
 #[no_mangle]
 pub extern "C" fn tuz_walk_headers(
     sequences: &mut [u32; 224],
     pictures: &mut [u32; 2304],
     recording: &[u8],
     from: usize,
-    scratch: &mut [u8],
     numbers: &mut [u32; 57],
     signed: &mut [i32; 7],
     l0: &mut [u32; 198],
@@ -26,16 +26,15 @@ pub extern "C" fn tuz_walk_headers(
     w1: &mut [i32; 256],
     base: &mut [u32; 198],
 ) -> WalkOut
-    ensures { λ r. ⌜ (r ≡ walkOut (walkedHeaders (tableOf (now (sequences .entry)) (now (pictures .entry))) (now (recording .entry)) from (now (scratch .entry)) .walked)) × (now (scratch .exit) ≡ walkedHeaders (tableOf (now (sequences .entry)) (now (pictures .entry))) (now (recording .entry)) from (now (scratch .entry)) .left) ⌝ }
-    ensures table { λ r. ⌜ tableOf (now (sequences .exit)) (now (pictures .exit)) ≡ walkedHeaders (tableOf (now (sequences .entry)) (now (pictures .entry))) (now (recording .entry)) from (now (scratch .entry)) .table ⌝ }
-    ensures words { λ r. ⌜ lentWords numbers signed l0 l1 marking w0 w1 base .exit ≡ wordsAfter (walkedHeaders (tableOf (now (sequences .entry)) (now (pictures .entry))) (now (recording .entry)) from (now (scratch .entry)) .walked .read) (lentWords numbers signed l0 l1 marking w0 w1 base .entry) ⌝ }
+    ensures { λ r. ⌜ r ≡ walkOut (walkedHeaders (tableOf (now (sequences .entry)) (now (pictures .entry))) (now (recording .entry)) from [] .walked) ⌝ }
+    ensures table { λ r. ⌜ tableOf (now (sequences .exit)) (now (pictures .exit)) ≡ walkedHeaders (tableOf (now (sequences .entry)) (now (pictures .entry))) (now (recording .entry)) from [] .table ⌝ }
+    ensures words { λ r. ⌜ lentWords numbers signed l0 l1 marking w0 w1 base .exit ≡ wordsAfter (walkedHeaders (tableOf (now (sequences .entry)) (now (pictures .entry))) (now (recording .entry)) from [] .walked .read) (lentWords numbers signed l0 l1 marking w0 w1 base .entry) ⌝ }
 {
     let w = walk_headers_into(
         sequences,
         pictures,
         recording,
         from,
-        scratch,
         numbers,
         signed,
         l0,

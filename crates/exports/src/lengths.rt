@@ -6,6 +6,7 @@ use crate::walks::walk_told;
 use framed::headers::walk_framed_headers_into;
 use framed::step::next_framed;
 ghost use mathlib.Core.Path.{_≡_};
+ghost use mathlib.Core.List.{[]};
 ghost use Rattle.header.specs.Lead.{tableOf};
 ghost use Rattle.unit.specs.Into.{lentWords, wordsAfter};
 ghost use Rattle.framed.specs.Framed.{nextFramed};
@@ -28,7 +29,6 @@ pub extern "C" fn tuz_walk_framed_headers(
     pictures: &mut [u32; 2304],
     recording: &[u8],
     from: usize,
-    scratch: &mut [u8],
     numbers: &mut [u32; 57],
     signed: &mut [i32; 7],
     l0: &mut [u32; 198],
@@ -38,16 +38,15 @@ pub extern "C" fn tuz_walk_framed_headers(
     w1: &mut [i32; 256],
     base: &mut [u32; 198],
 ) -> WalkOut
-    ensures { λ r. ⌜ (r ≡ walkOut (walkedFramedHeaders (tableOf (now (sequences .entry)) (now (pictures .entry))) (now (recording .entry)) from (now (scratch .entry)) .walked)) × (now (scratch .exit) ≡ walkedFramedHeaders (tableOf (now (sequences .entry)) (now (pictures .entry))) (now (recording .entry)) from (now (scratch .entry)) .left) ⌝ }
-    ensures table { λ r. ⌜ tableOf (now (sequences .exit)) (now (pictures .exit)) ≡ walkedFramedHeaders (tableOf (now (sequences .entry)) (now (pictures .entry))) (now (recording .entry)) from (now (scratch .entry)) .table ⌝ }
-    ensures words { λ r. ⌜ lentWords numbers signed l0 l1 marking w0 w1 base .exit ≡ wordsAfter (walkedFramedHeaders (tableOf (now (sequences .entry)) (now (pictures .entry))) (now (recording .entry)) from (now (scratch .entry)) .walked .read) (lentWords numbers signed l0 l1 marking w0 w1 base .entry) ⌝ }
+    ensures { λ r. ⌜ r ≡ walkOut (walkedFramedHeaders (tableOf (now (sequences .entry)) (now (pictures .entry))) (now (recording .entry)) from [] .walked) ⌝ }
+    ensures table { λ r. ⌜ tableOf (now (sequences .exit)) (now (pictures .exit)) ≡ walkedFramedHeaders (tableOf (now (sequences .entry)) (now (pictures .entry))) (now (recording .entry)) from [] .table ⌝ }
+    ensures words { λ r. ⌜ lentWords numbers signed l0 l1 marking w0 w1 base .exit ≡ wordsAfter (walkedFramedHeaders (tableOf (now (sequences .entry)) (now (pictures .entry))) (now (recording .entry)) from [] .walked .read) (lentWords numbers signed l0 l1 marking w0 w1 base .entry) ⌝ }
 {
     let w = walk_framed_headers_into(
         sequences,
         pictures,
         recording,
         from,
-        scratch,
         numbers,
         signed,
         l0,

@@ -6,7 +6,6 @@ pub mod Any
 pub mod Ahead
 pub mod Turns
 pub mod Loops
-pub mod Along
 pub mod Arrays
 pub mod Sizes
 pub mod Puts

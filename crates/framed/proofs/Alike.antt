@@ -142,10 +142,12 @@ module _ (t : Table) (c s out : List ℕ) {n : ℕ} where
   unfolding walked walkedFramed
   lengths-walked = lengths-by unitRead read-fair t c s out
 
-  pub codes-headers : toStartCodes s out .answer ≡ Converted.Of n → Same t (headersReports t c (take n (toStartCodes s out .left))) (framedHeadersReports t c s)
+-- the walks that read headers alone
+module _ (t : Table) (s out : List ℕ) {n : ℕ} where
+  pub codes-headers : toStartCodes s out .answer ≡ Converted.Of n → Same t (headersReports t (take n (toStartCodes s out .left))) (framedHeadersReports t s)
   unfolding walkedHeaders walkedFramedHeaders
-  codes-headers = codes-by unitFront front-fair t c s out
+  codes-headers = codes-by unitFront front-fair t [] s out
 
-  pub lengths-headers : toLengths s out .answer ≡ Converted.Of n → Same t (framedHeadersReports t c (take n (toLengths s out .left))) (headersReports t c s)
+  pub lengths-headers : toLengths s out .answer ≡ Converted.Of n → Same t (framedHeadersReports t (take n (toLengths s out .left))) (headersReports t s)
   unfolding walkedHeaders walkedFramedHeaders
-  lengths-headers = lengths-by unitFront front-fair t c s out
+  lengths-headers = lengths-by unitFront front-fair t [] s out

@@ -6,7 +6,7 @@ use mathlib.Core.Bool.{true, false, _&&_, and-false}
 use Prim.Native.Nat.{ℕ, _+_, _-_, _≤_, _<_}
 use native.Mathlib.Omega.{arith}
 use native.Mathlib.Nat.{sub-zero}
-use lib.Bits.{bitOr}
+use lib.Bits.{bitAnd, bitOr, bitXor, and-zero-r}
 use lib.Dec.{eqb, leb}
 use borrow.Author.Tests.{eq-eqb, ne-eqb, le-leb, lt-leb}
 use native.Mathlib.Decide.{decLt}
@@ -18,7 +18,7 @@ use Rattle.walk.proofs.Scans.{sought}
 use Rattle.walk.proofs.Trims.{kept-le, trim-on, trim-stop}
 use Rattle.scan.specs.Scan as scan
 use Rattle.scan.specs.Clear.{Spot, Clear}
-use Rattle.scan.proofs.Clears.{clear-part, clear-pairs, near-low}
+use Rattle.scan.proofs.Clears.{clear-part, near-low}
 use Rattle.scan.proofs.Hits.{upto-short}
 use Rattle.walk.specs.Units.{Span}
 use Rattle.framed.specs.declared.carry.Uncarried.{Uncarried}
@@ -62,9 +62,16 @@ lower-of (inr (q, e)) f g = let h = g q in (omega arith, omega arith)
 pub both-zero : {u : List ℕ} {j : ℕ} → Spot 0 0 u j → bitOr (getD u j 0) (getD u (j + 1) 0) ≡ 0
 both-zero p = rw (p .one, p .two)
 
+-- then nothing begins
+no-spot : (m f : ℕ) (u : List ℕ) (e : ℕ) → Clear 0 0 u 0 e → Clear m f u 0 e
+no-spot m f u e c j a b p = c j a b (record { one = p .one; two = p .two; three = and-none (getD u (j + 2) 0); small = p .small })
+  where
+    and-none : (x : ℕ) → bitXor (bitAnd x 0) 0 ≡ 0
+    and-none x = rw (and-zero-r x)
+
 pub no-pair : (u : List ℕ) (e : ℕ) → e ≡ length u - 1 → Clear 0 0 u 0 e → upto 0 u ≡ length u
 no-pair u e l c =
-    let h = near-low 0 1 u 0 (length u - 2) (omega arith) (omega arith) (omega arith) (clear-part 254 0 u 0 e 0 (length u - 2) (omega arith) (omega arith) (clear-pairs 254 0 u 0 e c)) in
+    let h = near-low 0 1 u 0 (length u - 2) (omega arith) (omega arith) (omega arith) (clear-part 254 0 u 0 e 0 (length u - 2) (omega arith) (omega arith) (no-spot 254 0 u e c)) in
     let d : length (drop (length u - 2) u) ≡ length u - (length u - 2) = length-drop (length u - 2) u in
     let f = upto-short 0 1 (drop (length u - 2) u) (omega arith) in
     let g = sought 0 u 0 (length u) (omega arith) in

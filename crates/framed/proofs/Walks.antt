@@ -14,7 +14,6 @@ use Rattle.table.specs.declared.table.Table.{Table}
 use Rattle.unit.specs.Unit.{unitRead}
 use Rattle.walk.specs.declared.walk.Step.{Step}
 use Rattle.front.specs.Front.{unitFront}
-use Rattle.walk.specs.Headers.{longestSet}
 use Rattle.walk.specs.Walked.{Reading, stepped, walkBy}
 use Rattle.walk.specs.Reports.{reportsBy, reportsIn, reportsOf}
 use Rattle.walk.proofs.State.{run}
@@ -82,17 +81,17 @@ framed-early = early unitRead read-fair
 
 -- ---- the walk that reads headers alone
 
-pub framed-headers-complete : (t : Table) (scratch s : List ℕ) → length s ≤ limit → framedHeadersReports t scratch s ≡ reportsOf unitFront t scratch (framedUnits s)
+pub framed-headers-complete : (t : Table) (s : List ℕ) → length s ≤ limit → framedHeadersReports t s ≡ reportsOf unitFront t [] (framedUnits s)
 unfolding walkedFramedHeaders
-framed-headers-complete = complete unitFront front-fair
+framed-headers-complete t s = complete unitFront front-fair t [] s
 
-pub framed-headers-no-more : (more : ℕ) (t : Table) (scratch s : List ℕ) → length s ≤ limit → reportsBy walkedFramedHeaders (more + length s) s t 0 scratch ≡ framedHeadersReports t scratch s
+pub framed-headers-no-more : (more : ℕ) (t : Table) (s : List ℕ) → length s ≤ limit → reportsBy walkedFramedHeaders (more + length s) s t 0 [] ≡ framedHeadersReports t s
 unfolding walkedFramedHeaders
-framed-headers-no-more more t scratch s h = all-framed unitFront front-fair more t scratch s h ∙ sym (complete unitFront front-fair t scratch s h)
+framed-headers-no-more more t s h = all-framed unitFront front-fair more t [] s h ∙ sym (complete unitFront front-fair t [] s h)
 
-pub framed-headers-early : (t : Table) (scratch P X : List ℕ) → length (P ++ X) ≤ limit → length P ≤ limit → endsBy (length P) (framedHeadersReports t scratch (P ++ X)) ≡ framedHeadersReports t scratch P
+pub framed-headers-early : (t : Table) (P X : List ℕ) → length (P ++ X) ≤ limit → length P ≤ limit → endsBy (length P) (framedHeadersReports t (P ++ X)) ≡ framedHeadersReports t P
 unfolding walkedFramedHeaders
-framed-headers-early = early unitFront front-fair
+framed-headers-early t P X = early unitFront front-fair t [] P X
 
 -- no unit has more bytes than the recording
 short-framed : (k n m : ℕ) (l : List ℕ) → length l ≤ m → Short m (framedAt k n l)
@@ -108,10 +107,10 @@ short-framed zero n m (a ∷ b ∷ c ∷ d ∷ r) h = go (leb (four a b c d) (le
     go true ih = (simp length-take (omega arith), ih)
     go false ih = tt
 
--- it reports what the walk does with room for every unit, where it has room for the parameter sets
-pub framed-headers-same : (t : Table) (c d s : List ℕ) → length s ≤ limit → longestSet (framedUnits s) ≤ length c → length s ≤ length d → framedHeadersReports t c s ≡ framedReports t d s
-framed-headers-same t c d s small h l =
-    framed-headers-complete t c s small ∙ reads-all t (length s) c d (framedUnits s) h (short-framed 0 0 (length s) s (omega arith)) l ∙ sym (framed-complete t d s small)
+-- it reports what the walk does with room for every unit
+pub framed-headers-same : (t : Table) (d s : List ℕ) → length s ≤ limit → length s ≤ length d → framedHeadersReports t s ≡ framedReports t d s
+framed-headers-same t d s small l =
+    framed-headers-complete t s small ∙ reads-all t (length s) [] d (framedUnits s) (short-framed 0 0 (length s) s (omega arith)) l ∙ sym (framed-complete t d s small)
 
 -- ---- where it ends
 

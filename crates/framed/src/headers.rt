@@ -4,18 +4,18 @@ use unit::into::ShortAnswer;
 use walk::headers::front_in_turn;
 use walk::walk::Step;
 use walk::walk::WalkedShort;
+ghost use mathlib.Core.List.{[]};
 ghost use Rattle.header.specs.Lead.{tableOf};
 ghost use Rattle.unit.specs.Into.{lentWords};
 ghost use Rattle.walk.specs.WalkedInto.{WalkedInto};
 ghost use Rattle.framed.specs.Walked.{walkedFramedHeaders};
 
-// As `by_length::walk_framed_into`, by the unit's front: scratch is for parameter sets alone.
+// As `by_length::walk_framed_into`, by the unit's front, and with no scratch.
 pub fn walk_framed_headers_into(
     sequences: &mut [u32; 224],
     pictures: &mut [u32; 2304],
     recording: &[u8],
     from: usize,
-    scratch: &mut [u8],
     numbers: &mut [u32; 57],
     signed: &mut [i32; 7],
     l0: &mut [u32; 198],
@@ -25,7 +25,7 @@ pub fn walk_framed_headers_into(
     w1: &mut [i32; 256],
     base: &mut [u32; 198],
 ) -> WalkedShort
-    ensures { λ r. ⌜ WalkedInto (walkedFramedHeaders (tableOf (now (sequences .entry)) (now (pictures .entry))) (now (recording .entry)) from (now (scratch .entry))) r (now (scratch .exit)) (tableOf (now (sequences .exit)) (now (pictures .exit))) (lentWords numbers signed l0 l1 marking w0 w1 base .entry) (lentWords numbers signed l0 l1 marking w0 w1 base .exit) ⌝ }
+    ensures { λ r. ⌜ WalkedInto (walkedFramedHeaders (tableOf (now (sequences .entry)) (now (pictures .entry))) (now (recording .entry)) from []) r [] (tableOf (now (sequences .exit)) (now (pictures .exit))) (lentWords numbers signed l0 l1 marking w0 w1 base .entry) (lentWords numbers signed l0 l1 marking w0 w1 base .exit) ⌝ }
 {
     let step = next_framed(recording, from);
     let Step::Unit(place, length, _) = step else {
@@ -39,7 +39,6 @@ pub fn walk_framed_headers_into(
         sequences,
         pictures,
         &recording[place..end],
-        scratch,
         numbers,
         signed,
         l0,

@@ -20,11 +20,20 @@ use Rattle.lists.specs.declared.list_words.PrefixStep.{PrefixStep}
 use Rattle.lists.specs.Leaves.{leaves}
 use Rattle.lists.specs.ListsLent.{prefixShort, prefixStep, prefixLeft}
 use Rattle.header.specs.Short.{HeaderWords, headerEnd, headerLeft}
+use Rattle.parameter_sets.specs.declared.sequence.SequenceSet.{SequenceSet}
+use Rattle.parameter_sets.specs.declared.sequence.SequenceSetStep.{SequenceSetStep}
+use Rattle.parameter_sets.specs.declared.picture.PictureSet.{PictureSet}
+use Rattle.parameter_sets.specs.declared.picture.PictureSetStep.{PictureSetStep}
+use Rattle.parameter_sets.specs.SequenceSet.{sequenceSet}
+use Rattle.parameter_sets.specs.SequenceSteps.{asSequenceSet}
+use Rattle.parameter_sets.specs.PictureSet.{pictureSet}
+use Rattle.parameter_sets.specs.PictureSteps.{asPictureSet}
+use Rattle.unit.specs.declared.answer.UnitAnswer.{UnitAnswer}
 use Rattle.unit.specs.declared.answer.UnitRead.{UnitRead}
 use Rattle.unit.specs.declared.into.ShortAnswer.{ShortAnswer}
 use Rattle.unit.specs.Answer.{only, sliceAnswer, prefixAnswer}
-use Rattle.unit.specs.Unit.{sliceBits, prefixBits}
-use Rattle.unit.specs.Into.{shortAnswer, Lent, blank, wordsAfter}
+use Rattle.unit.specs.Unit.{UnitOut, untouched, sliceBits, prefixBits, sequenceBits, pictureBits}
+use Rattle.unit.specs.Into.{shortAnswer, Lent, blank, wordsAfter, ReadInto}
 
 -- the answer r and the words w for a unit of which u is read, in words that were b
 abbrev Right : UnitRead → ShortAnswer → Lent → Lent → Type 0
@@ -80,3 +89,32 @@ module _ (kind : PrefixKind) (s : Bits) where
       → Right (prefixBits kind s) (ShortAnswer.Refused r) b w
   unfolding prefixBits
   prefix-cleared b p r e q = prefix-none (prefix kind .read s 0) b r (sym e ∙ p) q
+
+-- ---- a parameter set, which stands in the answer itself
+
+module _ (s : Bits) (b : Lent) where
+  pub sequence-right : (a : SequenceSetStep) → asSequenceSet a ≡ sequenceSet s 0 → (v : SequenceSet) (c : Cursor) → a ≡ SequenceSetStep.Got v c
+      → Right (sequenceBits s) (ShortAnswer.Sequence v) b b
+  unfolding sequenceBits shortAnswer wordsAfter only
+  sequence-right a p v c e = let k : sequenceSet s 0 ≡ got v (c .at) = sym p ∙ ap asSequenceSet e in rw k (refl, refl)
+
+  pub sequence-cleared : (a : SequenceSetStep) {w : Lent} → asSequenceSet a ≡ sequenceSet s 0 → (r : Refusal) → a ≡ SequenceSetStep.Refused r → w ≡ blank
+      → Right (sequenceBits s) (ShortAnswer.Refused r) b w
+  unfolding sequenceBits shortAnswer wordsAfter only
+  sequence-cleared a p r e q = let k : sequenceSet s 0 ≡ no r = sym p ∙ ap asSequenceSet e in rw k (refl, q)
+
+  pub picture-right : (a : PictureSetStep) → asPictureSet a ≡ pictureSet s 0 → (v : PictureSet) (c : Cursor) → a ≡ PictureSetStep.Got v c
+      → Right (pictureBits s) (ShortAnswer.Picture v) b b
+  unfolding pictureBits shortAnswer wordsAfter only
+  picture-right a p v c e = let k : pictureSet s 0 ≡ got v (c .at) = sym p ∙ ap asPictureSet e in rw k (refl, refl)
+
+  pub picture-cleared : (a : PictureSetStep) {w : Lent} → asPictureSet a ≡ pictureSet s 0 → (r : Refusal) → a ≡ PictureSetStep.Refused r → w ≡ blank
+      → Right (pictureBits s) (ShortAnswer.Refused r) b w
+  unfolding pictureBits shortAnswer wordsAfter only
+  picture-cleared a p r e q = let k : pictureSet s 0 ≡ no r = sym p ∙ ap asPictureSet e in rw k (refl, q)
+
+-- ---- another unit
+
+pub other-into : {o : UnitOut} {scratch : List ℕ} (id : ℕ) → o ≡ untouched (UnitAnswer.Other id) scratch → (w : Lent) → ReadInto o (ShortAnswer.Other id) scratch w w
+unfolding shortAnswer wordsAfter only
+other-into id e w = rw e (record { answered = refl; left = refl; words = refl })

@@ -2,3 +2,4 @@ pub mod Steps
 pub mod Cases
 pub mod Answers
 pub mod Units
+pub mod SetBodies

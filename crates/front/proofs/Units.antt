@@ -1,25 +1,22 @@
--- A unit by its front, as a whole: its head and then the rest; and what scratch does to it, which is nothing at all for a slice or a prefix unit.
+-- A unit by its front, as a whole: its head and then the rest; and scratch, which does nothing to it.
 use Prim.Native.Nat.{ℕ, _≤_}
 use mathlib.Core.Path.{_≡_, refl}
 use mathlib.Core.List.{List}
-use mathlib.Core.Bool.{Bool, true, false}
+use mathlib.Core.Bool.{true}
 use native.Mathlib.Omega.{arith}
 use borrow.Author.Tests.{eq-eqb}
 use lib.Dec.{eqb}
 use lib.ListN.{length, replicate, length-replicate}
-use Rattle.bits.specs.Refusals.{pick}
 use Rattle.bits.specs.declared.refusals.Refusal.{Refusal}
 use Rattle.table.specs.declared.table.Table.{Table}
 use Rattle.unit.specs.declared.answer.UnitAnswer.{UnitAnswer}
 use Rattle.unit.specs.declared.head.HeadRead.{HeadRead}
 use Rattle.unit.specs.declared.head.UnitHead.{UnitHead}
-use Rattle.unit.specs.Begin.{begun}
 use Rattle.unit.specs.Head.{headOf, equal}
-use Rattle.unit.specs.Unit.{UnitOut, untouched, unitRead}
-use Rattle.unit.proofs.Cases.{left-length}
+use Rattle.unit.specs.Unit.{untouched, unitRead}
 use Rattle.unit.proofs.Pair.{head-refused}
-use Rattle.unit.proofs.Rooms.{unit-alike, unit-roomy}
-use Rattle.front.specs.Front.{isFronted, unitFront, bodyFront}
+use Rattle.unit.proofs.Rooms.{unit-roomy}
+use Rattle.front.specs.Front.{unitFront, bodyFront}
 use Rattle.front.proofs.Cases.{front-own}
 
 -- a head is its own
@@ -29,10 +26,6 @@ own-head h =
     rw (same (h .«nal_unit_type»), same (h .«nal_ref_idc»), same (h .b1), same (h .b2), same (h .b3))
 
 module _ (t : Table) (unit scratch : List ℕ) where
-  -- what is read, by whether the unit is a slice or a prefix unit
-  abbrev by : Bool → UnitOut
-  by b = pick b (record { read = unitRead t unit (replicate (length unit) 0) .read; left = scratch }) (unitRead t unit scratch)
-
   -- ---- the head, and then the rest
 
   pub front-given : {h : UnitHead} → headOf unit ≡ HeadRead.Got h → bodyFront t h unit scratch ≡ unitFront t unit scratch
@@ -40,36 +33,20 @@ module _ (t : Table) (unit scratch : List ℕ) where
 
   pub front-refused : {r : Refusal} → headOf unit ≡ HeadRead.Refused r → unitFront t unit scratch ≡ untouched (UnitAnswer.Refused r) scratch
   unfolding unitFront
-  front-refused {r} q = go (isFronted (begun unit))
-    where
-      go : (b : Bool) → by b ≡ untouched (UnitAnswer.Refused r) scratch
-      go true = rw (head-refused t unit (replicate (length unit) 0) q)
-      go false = head-refused t unit scratch q
+  front-refused {r} q = rw (head-refused t unit (replicate (length unit) 0) q)
 
   -- ---- scratch
 
-  pub front-left-length : length (unitFront t unit scratch .left) ≡ length scratch
+  pub front-left : unitFront t unit scratch .left ≡ scratch
   unfolding unitFront
-  front-left-length = go (isFronted (begun unit))
-    where
-      go : (b : Bool) → length (by b .left) ≡ length scratch
-      go true = refl
-      go false = left-length t unit scratch
-
-  pub front-left : isFronted (begun unit) ≡ true → unitFront t unit scratch .left ≡ scratch
-  unfolding unitFront
-  front-left e = rw e
+  front-left = refl
 
   -- as the unit reads in any scratch in which it fits
-  pub front-whole : isFronted (begun unit) ≡ true → (roomy : List ℕ) → length unit ≤ length roomy → unitFront t unit scratch .read ≡ unitRead t unit roomy .read
+  pub front-whole : (roomy : List ℕ) → length unit ≤ length roomy → unitFront t unit scratch .read ≡ unitRead t unit roomy .read
   unfolding unitFront
-  front-whole e roomy l = rw e (unit-roomy t unit (replicate (length unit) 0) roomy (omega (arith, length-replicate {A = ℕ} (length unit) 0)) l)
+  front-whole roomy l = unit-roomy t unit (replicate (length unit) 0) roomy (omega (arith, length-replicate {A = ℕ} (length unit) 0)) l
 
--- two scratches of one length
-pub front-alike : (t : Table) (unit a b : List ℕ) → length a ≡ length b → unitFront t unit a .read ≡ unitFront t unit b .read
+-- whatever scratch is handed on
+pub front-alike : (t : Table) (unit a b : List ℕ) → unitFront t unit a .read ≡ unitFront t unit b .read
 unfolding unitFront
-front-alike t unit a b e = go (isFronted (begun unit))
-  where
-    go : (f : Bool) → by t unit a f .read ≡ by t unit b f .read
-    go true = refl
-    go false = unit-alike t unit a b e
+front-alike t unit a b = refl

@@ -10,3 +10,7 @@ pub mod PictureUnique
 pub mod PictureExamples
 pub mod SequenceUnique
 pub mod SequenceExamples
+pub mod PictureParts
+pub mod Looks
+pub mod SetsLook
+pub mod Moves

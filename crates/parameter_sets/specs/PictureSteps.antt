@@ -1,9 +1,13 @@
--- What each answer of the code that reads a picture set says, in the definitions' words. All but asPictureSet are for private contracts alone.
+-- What each answer of the code that reads a picture set says, in the definitions' words. All but asPictureSet, asPictureStart and whyPictureStart are for private contracts alone.
 use Prim.Native.Nat.{ℕ}
 use Rattle.bits.specs.Refusals.{Res, got, no, bind}
 use Rattle.bits.specs.Answers.{none}
 use Rattle.bits.specs.declared.refusals.Refusal.{Refusal}
 use Rattle.parameter_sets.specs.declared.picture.PictureSet.{PictureSet}
+use Rattle.parameter_sets.specs.declared.groups.Groups.{Groups}
+use Rattle.parameter_sets.specs.declared.groups.GroupsStep.{GroupsStep}
+use Rattle.parameter_sets.specs.declared.picture.PictureStart.{PictureStart}
+use Rattle.parameter_sets.specs.declared.picture.PictureStartStep.{PictureStartStep}
 use Rattle.parameter_sets.specs.declared.picture.PictureLead.{PictureLead}
 use Rattle.parameter_sets.specs.declared.picture.References.{References}
 use Rattle.parameter_sets.specs.declared.picture.Levels.{Levels}
@@ -11,6 +15,7 @@ use Rattle.parameter_sets.specs.declared.picture.PictureSetStep.{Picture
 use Rattle.parameter_sets.specs.declared.picture.PictureLeadStep.{PictureLeadStep}
 use Rattle.parameter_sets.specs.declared.picture.ReferencesStep.{ReferencesStep}
 use Rattle.parameter_sets.specs.declared.picture.LevelsStep.{LevelsStep}
+use Rattle.parameter_sets.specs.PictureParts.{noIds}
 
 abbrev pub asPictureSet : PictureSetStep → Res PictureSet
 asPictureSet (PictureSetStep.Got v c) = got v (c .at)
@@ -43,3 +48,23 @@ whyLevels (LevelsStep.Refused r) = r
 -- no rate, where elements were passed over
 abbrev pub noRate : Res (Unit {0}) → Res ℕ
 noRate m = bind m (λ passed e. got 0 e)
+
+abbrev pub asGroups : GroupsStep → Res Groups
+asGroups (GroupsStep.Got g c) = got g (c .at)
+asGroups (GroupsStep.Refused r) = no r
+
+abbrev pub whyGroups : GroupsStep → Refusal
+whyGroups (GroupsStep.Got g c) = none
+whyGroups (GroupsStep.Refused r) = r
+
+-- a rate, and no ids
+abbrev pub rated : Res ℕ → Res Groups
+rated m = bind m (λ rate e. got (noIds rate) e)
+
+abbrev pub asPictureStart : PictureStartStep → Res PictureStart
+asPictureStart (PictureStartStep.Got v c) = got v (c .at)
+asPictureStart (PictureStartStep.Refused r) = no r
+
+abbrev pub whyPictureStart : PictureStartStep → Refusal
+whyPictureStart (PictureStartStep.Got v c) = none
+whyPictureStart (PictureStartStep.Refused r) = r

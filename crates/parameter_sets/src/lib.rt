@@ -2,5 +2,5 @@
 mod codes; // codes of both
 mod scaling; // scaling lists, passed over
 pub mod sequence; // seq_parameter_set_data( )
-mod groups; // the slice groups of a picture set
+pub mod groups; // the slice groups of a picture set
 pub mod picture; // pic_parameter_set_rbsp( )

@@ -1,7 +1,11 @@
 // pic_parameter_set_rbsp( ), to redundant_pic_cnt_present_flag.
 use crate::codes::up_to;
 use crate::codes::within;
-use crate::groups::slice_groups;
+use crate::groups::Groups;
+use crate::groups::GroupsStep;
+use crate::groups::groups_start;
+use crate::groups::pass_ids;
+use crate::groups::why_groups;
 use bits::read::Cursor;
 use bits::read::Read;
 use bits::read::ReadFlag;
@@ -13,7 +17,9 @@ use bits::refusals::Refusal;
 use bits::refusals::SET_FIELD;
 use bits::refusals::no_refusal;
 use bits::refusals::refuse_at;
+use fields::step::End;
 use fields::step::SignedGiven;
+use fields::step::why_end;
 use fields::step::why_given;
 use table::sets::Picture;
 ghost use mathlib.Core.Path.{_≡_};
@@ -25,7 +31,8 @@ ghost use Rattle.fmt.specs.Fmt.{test};
 ghost use Rattle.fmt.specs.Leaves.{u};
 ghost use Rattle.parameter_sets.specs.SequenceSet.{setField};
 ghost use Rattle.parameter_sets.specs.PictureSet.{pictureLead, references, levels, pictureSet};
-ghost use Rattle.parameter_sets.specs.PictureSteps.{asPictureLead, asReferences, asLevels, asPictureSet, whyPictureLead, whyReferences, whyLevels};
+ghost use Rattle.parameter_sets.specs.PictureParts.{pictureStart, pictureRest};
+ghost use Rattle.parameter_sets.specs.PictureSteps.{asPictureLead, asPictureStart, asReferences, asLevels, asPictureSet, whyPictureLead, whyPictureStart, whyReferences, whyLevels};
 
 // A set and its id.
 pub struct PictureSet {
@@ -55,6 +62,12 @@ pub struct Levels {
     pub redundant_pic_cnt_present_flag: bool,
 }
 
+// What stands before slice_group_id.
+pub struct PictureStart {
+    pub lead: PictureLead,
+    pub groups: Groups,
+}
+
 pub enum PictureLeadStep {
     Got(PictureLead, Cursor),
     Refused(Refusal),
@@ -70,6 +83,11 @@ pub enum LevelsStep {
     Refused(Refusal),
 }
 
+pub enum PictureStartStep {
+    Got(PictureStart, Cursor),
+    Refused(Refusal),
+}
+
 pub enum PictureSetStep {
     Got(PictureSet, Cursor),
     Refused(Refusal),
@@ -82,6 +100,15 @@ fn why_picture_lead(a: PictureLeadStep) -> Refusal
     match a {
         PictureLeadStep::Got(_, _) => no_refusal(),
         PictureLeadStep::Refused(r) => r,
+    }
+}
+
+pub fn why_picture_start(a: PictureStartStep) -> Refusal
+    ensures { λ r. ⌜ r ≡ whyPictureStart a ⌝ }
+{
+    match a {
+        PictureStartStep::Got(_, _) => no_refusal(),
+        PictureStartStep::Refused(r) => r,
     }
 }
 
@@ -219,25 +246,35 @@ fn picture_levels(s: &[u8], c: Cursor) -> LevelsStep
     )
 }
 
-pub fn picture_set(s: &[u8], c: Cursor) -> PictureSetStep
-    ensures { λ r. ⌜ asPictureSet r ≡ pictureSet (bitsOf (now (s .entry))) (c .at) ⌝ }
+// pic_parameter_set_id to slice_group_id, without the ids
+pub fn picture_start(s: &[u8], c: Cursor) -> PictureStartStep
+    ensures { λ r. ⌜ asPictureStart r ≡ pictureStart (bitsOf (now (s .entry))) (c .at) ⌝ }
 {
     let a1 = picture_lead(s, c);
-    let PictureLeadStep::Got(l, c1) = a1 else {
-        return PictureSetStep::Refused(why_picture_lead(a1));
+    let PictureLeadStep::Got(lead, c1) = a1 else {
+        return PictureStartStep::Refused(why_picture_lead(a1));
     };
-    let a2 = slice_groups(s, c1);
-    let Read::Got(rate, c2) = a2 else {
-        return PictureSetStep::Refused(why(a2));
+    let a2 = groups_start(s, c1);
+    let GroupsStep::Got(groups, c2) = a2 else {
+        return PictureStartStep::Refused(why_groups(a2));
     };
-    let a3 = picture_references(s, c2);
-    let ReferencesStep::Got(r, c3) = a3 else {
-        return PictureSetStep::Refused(why_references(a3));
+    PictureStartStep::Got(PictureStart { lead, groups }, c2)
+}
+
+// What stands behind slice_group_id; the set, by that and by what stood before.
+pub fn picture_rest(s: &[u8], c: Cursor, start: PictureStart) -> PictureSetStep
+    ensures { λ r. ⌜ asPictureSet r ≡ pictureRest start (bitsOf (now (s .entry))) (c .at) ⌝ }
+{
+    let a1 = picture_references(s, c);
+    let ReferencesStep::Got(r, c1) = a1 else {
+        return PictureSetStep::Refused(why_references(a1));
     };
-    let a4 = picture_levels(s, c3);
-    let LevelsStep::Got(v, c4) = a4 else {
-        return PictureSetStep::Refused(why_levels(a4));
+    let a2 = picture_levels(s, c1);
+    let LevelsStep::Got(v, c2) = a2 else {
+        return PictureSetStep::Refused(why_levels(a2));
     };
+    let l = start.lead;
+    let g = start.groups;
     PictureSetStep::Got(
         PictureSet {
             pic_parameter_set_id: l.pic_parameter_set_id,
@@ -253,9 +290,23 @@ pub fn picture_set(s: &[u8], c: Cursor) -> PictureSetStep
                 pic_init_qs_minus26: v.pic_init_qs_minus26,
                 deblocking_filter_control_present_flag: v.deblocking_filter_control_present_flag,
                 redundant_pic_cnt_present_flag: v.redundant_pic_cnt_present_flag,
-                slice_group_change_rate: rate,
+                slice_group_change_rate: g.slice_group_change_rate,
             },
         },
-        c4,
+        c2,
     )
+}
+
+pub fn picture_set(s: &[u8], c: Cursor) -> PictureSetStep
+    ensures { λ r. ⌜ asPictureSet r ≡ pictureSet (bitsOf (now (s .entry))) (c .at) ⌝ }
+{
+    let a1 = picture_start(s, c);
+    let PictureStartStep::Got(start, c1) = a1 else {
+        return PictureSetStep::Refused(why_picture_start(a1));
+    };
+    let a2 = pass_ids(s, c1, start.groups);
+    let End::At(c2) = a2 else {
+        return PictureSetStep::Refused(why_end(a2));
+    };
+    picture_rest(s, c2, start)
 }

@@ -7,7 +7,7 @@ use lib.Dec.{T, leb, eqb}
 use lib.IntN.{pos}
 use lib.ListN.{length, drop}
 use native.Mathlib.Omega.{arith}
-use Rattle.bits.specs.Refusals.{Res, got, no, pick, refusal, tooLarge, limit}
+use Rattle.bits.specs.Refusals.{Res, got, no, pick, refusal, tooLarge, limit, bufferTooShort}
 use Rattle.bits.specs.Bits.{Bits, bytesBits}
 use Rattle.bits.specs.declared.refusals.Refusal.{Refusal}
 use Rattle.bits.proofs.Results.{cases}
@@ -84,13 +84,14 @@ refused-fine r k = (refl, k)
 
 -- ---- the first bytes
 
-abbrev Begins : Begun → Type 0
+-- a refusal of them has one of the numbers, and is not 26
+abbrev pub Begins : Begun → Type 0
 Begins (Begun.Slice kind from) = Unit {0}
 Begins (Begun.«Prefix» kind) = Unit {0}
 Begins Begun.SequenceSet = Unit {0}
 Begins Begun.PictureSet = Unit {0}
 Begins (Begun.Other id) = Unit {0}
-Begins (Begun.Refused r) = Placed (r .«has_bit») (r .number)
+Begins (Begun.Refused r) = Placed (r .«has_bit») (r .number) × (eqb (r .number) bufferTooShort ≡ false)
 
 begins-by : (c : Bool) (a b : Begun) → Begins a → Begins b → Begins (pick c a b)
 begins-by true a b f g = f
@@ -98,7 +99,7 @@ begins-by false a b f g = g
 
 extended-begins : (unit : List ℕ) (h : NalHeader) → Begins (withExtension h (extensionOf unit))
 unfolding extensionOf extended
-extended-begins unit h = cases (leb 4 (length unit)) (λ i. rw i (begins-by (eqb (typeIn h) 14) _ _ tt tt)) (λ i. rw i (tt, refl))
+extended-begins unit h = cases (leb 4 (length unit)) (λ i. rw i (begins-by (eqb (typeIn h) 14) _ _ tt tt)) (λ i. rw i ((tt, refl), refl))
 
 typed-begins : (unit : List ℕ) (h : NalHeader) → Begins (typed unit h)
 unfolding typed
@@ -108,12 +109,12 @@ typed-begins unit h =
 
 header-begins : (unit : List ℕ) → Begins (withHeader unit (headerOf unit))
 unfolding headerOf headerFrom
-header-begins [] = (tt, refl)
-header-begins (b ∷ s) = cases (eqb (forbiddenZeroBitOf b) 0) (λ i. rw i (typed-begins (b ∷ s) _)) (λ i. rw i (tt, refl))
+header-begins [] = ((tt, refl), refl)
+header-begins (b ∷ s) = cases (eqb (forbiddenZeroBitOf b) 0) (λ i. rw i (typed-begins (b ∷ s) _)) (λ i. rw i ((tt, refl), refl))
 
-begun-begins : (unit : List ℕ) → Begins (begun unit)
+pub begun-begins : (unit : List ℕ) → Begins (begun unit)
 unfolding begun
-begun-begins unit = begins-by (leb (length unit) limit) _ _ (header-begins unit) (tt, refl)
+begun-begins unit = begins-by (leb (length unit) limit) _ _ (header-begins unit) ((tt, refl), refl)
 
 -- ---- the whole unit
 
@@ -148,7 +149,7 @@ module _ (t : Table) (unit scratch : List ℕ) where
       go Begun.SequenceSet k = in-body sequenceBits 1 sequence-bits
       go Begun.PictureSet k = in-body pictureBits 1 picture-bits
       go (Begun.Other id) k = other-fine id
-      go (Begun.Refused r) k = refused-fine r k
+      go (Begun.Refused r) k = refused-fine r (k .0)
 
   body-left : (reads : Bits → UnitRead) (from : ℕ) → inBody reads unit from scratch .left ≡ bodyLeft unit from scratch
   unfolding inBody

@@ -10,7 +10,7 @@ use Rattle.table.specs.declared.table.Table.{Table}
 use Rattle.walk.specs.Walk.{hit}
 use Rattle.walk.specs.Units.{units}
 use Rattle.walk.specs.Reports.{sift, tableAt}
-use Rattle.walk.specs.Headers.{headersReports, longestSet}
+use Rattle.walk.specs.Headers.{headersReports}
 use Rattle.walk.proofs.Border.{Parted, border}
 use Rattle.exposures.specs.declared.slice.Item.{Item}
 use Rattle.exposures.specs.declared.exposure.Exposure.{Exposure}
@@ -33,9 +33,9 @@ use Rattle.promises.proofs.Places.{Falls, falls-from, in-both}
 pub exposures-taken : (t : Table) (c s : List ℕ) → run start (items t c s) ≡ exposuresIn t c s
 exposures-taken t c s = taken-exposures (items t c s)
 
--- the walk that reads headers alone, with scratch for its sets, has the items of the walk with scratch for all: what follows holds of it
-pub exposures-headers : (t : Table) (c s : List ℕ) → longestSet (units s) ≤ length c → itemsOf s t (headersReports t c s) ≡ items t (replicate (length s) 0) s
-exposures-headers t c s h = ap (itemsOf s t) (headers-reports t c s h)
+-- the walk that reads headers alone has the items of the walk with scratch for all: what follows holds of it
+pub exposures-headers : (t : Table) (s : List ℕ) → itemsOf s t (headersReports t s) ≡ items t (replicate (length s) 0) s
+exposures-headers t s = ap (itemsOf s t) (headers-reports t s)
 
 module _ (t : Table) (c s : List ℕ) (k : ℕ) (small : length s ≤ limit) where
   -- the exposures that begin from k on are, of the items from k on, those that begin there

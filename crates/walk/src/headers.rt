@@ -1,5 +1,4 @@
-// The walk that reads headers alone: a slice's header, or what a prefix unit holds, is read from the recording itself. Scratch is for parameter sets: as much as the
-// longest of their units has is enough, and none where there are none.
+// The walk that reads headers alone: a slice's header, what a prefix unit holds, or a parameter set is read from the recording itself, and no scratch is lent.
 use crate::turn::keep_set;
 use crate::walk::Step;
 use crate::walk::WalkedShort;
@@ -9,18 +8,18 @@ use unit::head::HeadRead;
 use unit::head::head;
 use unit::into::ShortAnswer;
 use unit::into::clear_words;
+ghost use mathlib.Core.List.{[]};
 ghost use Rattle.header.specs.Lead.{tableOf};
 ghost use Rattle.unit.specs.Into.{lentWords, ReadInto};
 ghost use Rattle.front.specs.Front.{unitFront};
 ghost use Rattle.walk.specs.WalkedInto.{WalkedInto, Turned};
 ghost use Rattle.walk.specs.Headers.{walkedHeaders};
 
-// A unit's head and then what it holds. Scratch and words are left as `read_front_into` leaves them; beside a refused head scratch is untouched, and all words are zeros.
+// A unit's head and then what it holds. Words are left as `read_front_into` leaves them; beside a refused head all are zeros.
 fn read_headers<'a>(
     sequences: &'a [u32; 224],
     pictures: &'a [u32; 2304],
     unit: &[u8],
-    scratch: &mut [u8],
     numbers: &mut [u32; 57],
     signed: &mut [i32; 7],
     l0: &mut [u32; 198],
@@ -30,7 +29,7 @@ fn read_headers<'a>(
     w1: &mut [i32; 256],
     base: &mut [u32; 198],
 ) -> ShortAnswer
-    ensures { λ r. ⌜ ReadInto (unitFront (tableOf (now (sequences .entry)) (now (pictures .entry))) (now (unit .entry)) (now (scratch .entry))) r (now (scratch .exit)) (lentWords numbers signed l0 l1 marking w0 w1 base .entry) (lentWords numbers signed l0 l1 marking w0 w1 base .exit) ⌝ }
+    ensures { λ r. ⌜ ReadInto (unitFront (tableOf (now (sequences .entry)) (now (pictures .entry))) (now (unit .entry)) []) r [] (lentWords numbers signed l0 l1 marking w0 w1 base .entry) (lentWords numbers signed l0 l1 marking w0 w1 base .exit) ⌝ }
 {
     match head(unit) {
         HeadRead::Got(h) => read_front_into(
@@ -38,7 +37,6 @@ fn read_headers<'a>(
             sequences,
             pictures,
             unit,
-            scratch,
             numbers,
             signed,
             l0,
@@ -55,12 +53,11 @@ fn read_headers<'a>(
     }
 }
 
-// As `turn::body_in_turn`, by the unit's front. Scratch and words are left as `read_headers` leaves them.
+// As `turn::body_in_turn`, by the unit's front. Words are left as `read_headers` leaves them.
 pub fn front_in_turn(
     sequences: &mut [u32; 224],
     pictures: &mut [u32; 2304],
     unit: &[u8],
-    scratch: &mut [u8],
     numbers: &mut [u32; 57],
     signed: &mut [i32; 7],
     l0: &mut [u32; 198],
@@ -70,13 +67,12 @@ pub fn front_in_turn(
     w1: &mut [i32; 256],
     base: &mut [u32; 198],
 ) -> ShortAnswer
-    ensures { λ r. ⌜ Turned unitFront (tableOf (now (sequences .entry)) (now (pictures .entry))) (now (unit .entry)) (now (scratch .entry)) r (now (scratch .exit)) (tableOf (now (sequences .exit)) (now (pictures .exit))) (lentWords numbers signed l0 l1 marking w0 w1 base .entry) (lentWords numbers signed l0 l1 marking w0 w1 base .exit) ⌝ }
+    ensures { λ r. ⌜ Turned unitFront (tableOf (now (sequences .entry)) (now (pictures .entry))) (now (unit .entry)) [] r [] (tableOf (now (sequences .exit)) (now (pictures .exit))) (lentWords numbers signed l0 l1 marking w0 w1 base .entry) (lentWords numbers signed l0 l1 marking w0 w1 base .exit) ⌝ }
 {
     let answer = read_headers(
         sequences,
         pictures,
         unit,
-        scratch,
         numbers,
         signed,
         l0,
@@ -96,7 +92,6 @@ pub fn walk_headers_into(
     pictures: &mut [u32; 2304],
     recording: &[u8],
     from: usize,
-    scratch: &mut [u8],
     numbers: &mut [u32; 57],
     signed: &mut [i32; 7],
     l0: &mut [u32; 198],
@@ -106,7 +101,7 @@ pub fn walk_headers_into(
     w1: &mut [i32; 256],
     base: &mut [u32; 198],
 ) -> WalkedShort
-    ensures { λ r. ⌜ WalkedInto (walkedHeaders (tableOf (now (sequences .entry)) (now (pictures .entry))) (now (recording .entry)) from (now (scratch .entry))) r (now (scratch .exit)) (tableOf (now (sequences .exit)) (now (pictures .exit))) (lentWords numbers signed l0 l1 marking w0 w1 base .entry) (lentWords numbers signed l0 l1 marking w0 w1 base .exit) ⌝ }
+    ensures { λ r. ⌜ WalkedInto (walkedHeaders (tableOf (now (sequences .entry)) (now (pictures .entry))) (now (recording .entry)) from []) r [] (tableOf (now (sequences .exit)) (now (pictures .exit))) (lentWords numbers signed l0 l1 marking w0 w1 base .entry) (lentWords numbers signed l0 l1 marking w0 w1 base .exit) ⌝ }
 {
     let step = next_step(recording, from);
     let Step::Unit(place, length, _) = step else {
@@ -120,7 +115,6 @@ pub fn walk_headers_into(
         sequences,
         pictures,
         &recording[place..end],
-        scratch,
         numbers,
         signed,
         l0,

@@ -82,7 +82,7 @@ struct Walk {
     out: WalkOut,
 }
 
-type Step = fn(&mut raw::Table, &[u8], usize, &mut [u8], &mut Words, &mut WalkOut);
+type Step = fn(&mut raw::Table, &[u8], usize, &mut Words, &mut WalkOut);
 
 impl Walk {
     fn framed() -> Walk {
@@ -102,7 +102,7 @@ impl Walk {
         }
     }
 
-    /// Walks over the unit, with scratch for a parameter set alone. It must answer as reading it did, and leave the same words and the table that the answer makes.
+    /// Walks over the unit. It must answer as reading it did, and leave the same words and the table that the answer makes.
     fn compare(&mut self, table: &Table, reading: &Reading<'_>) -> Result<()> {
         let (unit, (read, words)) = (reading.bytes(), reading.raw());
         let mut recording = (unit.len() as u32).to_be_bytes().to_vec();
@@ -117,11 +117,9 @@ impl Walk {
                 }
             }
         }
-        let set = unit.first().map_or(false, |b| matches!(b & 31, 7 | 8));
-        let mut scratch = vec![0; if set { unit.len() } else { 0 }];
         let (mut after, mut put) = (*table.as_raw(), *table.as_raw());
         let (words_after, out) = (&mut self.words, &mut self.out);
-        (self.step)(&mut after, &recording, 0, &mut scratch, words_after, out);
+        (self.step)(&mut after, &recording, 0, words_after, out);
         raw::put_read(&mut put, read);
         let place = (out.step, out.place, out.length, out.next);
         let whole = (1, 4, unit.len(), recording.len());

@@ -14,26 +14,22 @@ pub(crate) enum Framing {
 
 /// What a walk is lent, and what its last step gave.
 pub(crate) struct Lent {
-    /// For parameter sets alone, as long as the longest that has come: all else is read where it stands.
+    /// For the body of a unit that is read by itself; a walk asks for none.
     scratch: Vec<u8>,
     words: Box<Words>,
     pub(crate) out: WalkOut,
 }
 
-/// Enough for nearly every parameter set.
-const SCRATCH: usize = 256;
-const BUFFER_TOO_SHORT: u32 = 26;
-
 impl Lent {
     pub(crate) fn new() -> Lent {
         Lent {
-            scratch: vec![0; SCRATCH],
+            scratch: Vec::new(),
             words: Box::default(),
             out: WalkOut::default(),
         }
     }
 
-    /// One step from a place on. Where scratch is too short for a set, nothing was changed by it: scratch is lengthened, and the step taken again.
+    /// One step from a place on.
     pub(crate) fn step(
         &mut self,
         framing: Framing,
@@ -45,27 +41,15 @@ impl Lent {
             Framing::StartCodes => raw::walk_headers,
             Framing::Length => raw::walk_framed_headers,
         };
-        loop {
-            let (scratch, words, out) = (&mut self.scratch, &mut self.words, &mut self.out);
-            walk(table.as_raw_mut(), recording, from, scratch, words, out);
-            let short =
-                out.step == 1 && out.read.answer == 3 && out.read.number == BUFFER_TOO_SHORT;
-            if !short {
-                return;
-            }
-            self.lengthen(self.out.read.value as usize);
-        }
-    }
-
-    fn lengthen(&mut self, length: usize) {
-        if self.scratch.len() < length {
-            self.scratch.resize(length, 0);
-        }
+        let (words, out) = (&mut self.words, &mut self.out);
+        walk(table.as_raw_mut(), recording, from, words, out);
     }
 
     /// A unit by itself, its set put into the table: for one that is too long for a walk.
     pub(crate) fn unit(&mut self, table: &mut Table, unit: &[u8]) {
-        self.lengthen(unit.len());
+        if self.scratch.len() < unit.len() {
+            self.scratch.resize(unit.len(), 0);
+        }
         let (scratch, words, read) = (&mut self.scratch, &mut self.words, &mut self.out.read);
         raw::read_unit(table.as_raw(), unit, scratch, words, read);
         raw::put_read(table.as_raw_mut(), read);

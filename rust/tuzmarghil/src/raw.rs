@@ -60,6 +60,24 @@ extern "C" {
         w1: *mut WeightWords,
         base: *mut ListWords,
     );
+    fn tuz_walk(
+        out: *mut WalkOut,
+        sequences: *mut [u32; 224],
+        pictures: *mut [u32; 2304],
+        recording: *const u8,
+        recording_len: usize,
+        from: usize,
+        scratch: *mut u8,
+        scratch_len: usize,
+        numbers: *mut NumberWords,
+        signed: *mut SignedWords,
+        l0: *mut ListWords,
+        l1: *mut ListWords,
+        marking: *mut ListWords,
+        w0: *mut WeightWords,
+        w1: *mut WeightWords,
+        base: *mut ListWords,
+    );
     fn tuz_next_unit(out: *mut StepOut, recording: *const u8, recording_len: usize, from: usize);
     fn tuz_next_framed(out: *mut StepOut, recording: *const u8, recording_len: usize, from: usize);
     fn tuz_to_start_codes(
@@ -483,7 +501,24 @@ pub fn next_framed(recording: &[u8], from: usize) -> StepOut {
     out
 }
 
-/// A walk's step of the proved library, under its name.
+/// One step of the walk: a set that is read is put into the table.
+pub fn walk(
+    table: &mut Table,
+    recording: &[u8],
+    from: usize,
+    scratch: &mut [u8],
+    words: &mut Words,
+    out: &mut WalkOut,
+) {
+    asked();
+    let (q, p) = (&mut table.sequences, &mut table.pictures);
+    let (r, rn) = (recording.as_ptr(), recording.len());
+    let (s, sn) = (scratch.as_mut_ptr(), scratch.len());
+    // SAFETY: each pointer and length is that of a live slice, the arrays live through the call and lie apart, and it requires nothing.
+    unsafe { lending!(words, tuz_walk(out, q, p, r, rn, from, s, sn)) }
+}
+
+/// The step of a walk that reads headers alone, under its name in the proved library.
 macro_rules! walks {
     ($($(#[$told:meta])* $name:ident: $call:ident;)*) => { $(
         $(#[$told])*
@@ -491,7 +526,6 @@ macro_rules! walks {
             table: &mut Table,
             recording: &[u8],
             from: usize,
-            scratch: &mut [u8],
             words: &mut Words,
             out: &mut WalkOut,
         ) {
@@ -503,8 +537,6 @@ macro_rules! walks {
                     recording: *const u8,
                     recording_len: usize,
                     from: usize,
-                    scratch: *mut u8,
-                    scratch_len: usize,
                     numbers: *mut NumberWords,
                     signed: *mut SignedWords,
                     l0: *mut ListWords,
@@ -518,17 +550,14 @@ macro_rules! walks {
             asked();
             let (q, p) = (&mut table.sequences, &mut table.pictures);
             let (r, rn) = (recording.as_ptr(), recording.len());
-            let (s, sn) = (scratch.as_mut_ptr(), scratch.len());
-            // SAFETY: each pointer and length is that of a live slice, the arrays live through the call and lie apart, and it requires nothing.
-            unsafe { lending!(words, $call(out, q, p, r, rn, from, s, sn)) }
+            // SAFETY: the pointer and length are those of a live slice, the arrays live through the call and lie apart, and it requires nothing.
+            unsafe { lending!(words, $call(out, q, p, r, rn, from)) }
         }
     )* };
 }
 
 walks! {
-    /// One step of the walk: a set that is read is put into the table.
-    walk: tuz_walk;
-    /// The same, with headers alone: scratch is for parameter sets.
+    /// One step of the walk, with headers alone: no body is handed on, and no scratch is lent.
     walk_headers: tuz_walk_headers;
     /// The same in a recording framed by length.
     walk_framed_headers: tuz_walk_framed_headers;

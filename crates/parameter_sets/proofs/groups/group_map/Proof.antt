@@ -20,11 +20,7 @@ returns-3 c = rw (ne-eqb _ _ (c .before .before .before .before .if1 .left), ne-
 
 returns-4 : tie.Need-returns-4
 unfolding groupMap next found
-returns-4 c = rw (c .no-rate3 .ensures, c .before .group-ids .ensures, ne-eqb _ _ (c .before .before .before .before .before .before .if1 .left), ne-eqb _ _ (c .before .before .before .before .before .if2 .left), ← c .before .before .before .before .is-changing .ensures, c .before .before .before .if3 .left, eq-eqb _ _ (c .before .before .if4 .taken))
-
-returns-5 : tie.Need-returns-5
-unfolding groupMap next found
-returns-5 c = rw (ne-eqb _ _ (c .before .before .before .before .if1 .left), ne-eqb _ _ (c .before .before .before .if2 .left), ← c .before .before .is-changing .ensures, c .before .if3 .left, ne-eqb _ _ (c .if4 .left))
+returns-4 c = rw (ne-eqb _ _ (c .before .before .before .if1 .left), ne-eqb _ _ (c .before .before .if2 .left), ← c .before .is-changing .ensures, c .if3 .left, c .before .before .before .before .before .pre .1)
 
 pub group-map-spec : {M : Type 1} → statement M
 group-map-spec =
@@ -41,7 +37,4 @@ group-map-spec =
     (λ c κs. search needs)
     (λ c κs. search needs)
     returns-3
-    (λ c κs. search needs)
-    (λ c κs. search needs)
-    returns-4
-    returns-5)
+    returns-4)

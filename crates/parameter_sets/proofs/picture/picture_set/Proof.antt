@@ -1,8 +1,6 @@
-use mir.Facts.{toZ-ofZ}
-use mir.Syntax.{w32}
-use mir.Val.{SFits}
-use Rattle.fmt.specs.Reads.{found, next}
-use Rattle.parameter_sets.specs.PictureSet.{pictureSet}
+use mathlib.Core.Path.{sym, _∙_}
+use Rattle.fmt.specs.Reads.{next}
+use Rattle.parameter_sets.proofs.PictureParts.{picture-parts}
 use borrow.Author.Needs.{needs}
 use Rattle.parameter_sets.proofs.picture.picture_set.Statement.{statement}
 use Rattle.parameter_sets.proofs.picture.picture_set.Tie as tie
@@ -11,27 +9,16 @@ enum-told : tie.Need-enum-told
 enum-told c = search needs
 
 returns : tie.Need-returns
-unfolding pictureSet next found
-returns c = rw (c .why-picture-lead .ensures, ← c .before .before .before .picture-lead .ensures, c .before .enum-told .given .1)
+unfolding next
+returns c = rw (picture-parts, c .why-picture-start .ensures, ← c .before .before .before .picture-start .ensures, c .before .enum-told .given .1)
 
 returns-2 : tie.Need-returns-2
-unfolding pictureSet next found
-returns-2 c = rw (c .why .ensures, ← c .before .before .before .before .before .before .before .picture-lead .ensures, c .before .before .before .before .before .a1 .given .1, ← c .before .before .before .slice-groups .ensures, c .before .enum-told2 .given .1)
+unfolding next
+returns-2 c = rw (picture-parts, c .why-end .ensures, ← c .before .before .before .before .before .before .before .picture-start .ensures, c .before .before .before .before .before .a1 .given .1, ← c .before .before .before .pass-ids .ensures, c .before .enum-told2 .given .1)
 
 returns-3 : tie.Need-returns-3
-unfolding pictureSet next found
-returns-3 c = rw (c .why-references .ensures, ← c .before .before .before .before .before .before .before .before .before .before .before .picture-lead .ensures, c .before .before .before .before .before .before .before .before .before .a1 .given .1, ← c .before .before .before .before .before .before .before .slice-groups .ensures, c .before .before .before .before .before .a2 .given .1, ← c .before .before .before .picture-references .ensures, c .before .enum-told3 .given .1)
-
-returns-4 : tie.Need-returns-4
-unfolding pictureSet next found
-returns-4 c = rw (c .why-levels .ensures, ← c .before .before .before .before .before .before .before .before .before .before .before .before .before .before .before .picture-lead .ensures, c .before .before .before .before .before .before .before .before .before .before .before .before .before .a1 .given .1, ← c .before .before .before .before .before .before .before .before .before .before .before .slice-groups .ensures, c .before .before .before .before .before .before .before .before .before .a2 .given .1, ← c .before .before .before .before .before .before .before .picture-references .ensures, c .before .before .before .before .before .a3 .given .1, ← c .before .before .before .picture-levels .ensures, c .before .enum-told4 .given .1)
-
-returns-5 : tie.Need-returns-5
-unfolding pictureSet next found
-returns-5 c =
-    let f : SFits w32 (c .before .before .a4 .given .0 .0 .«pic_init_qp_minus26») = search needs in
-    let g : SFits w32 (c .before .before .a4 .given .0 .0 .«pic_init_qs_minus26») = search needs in
-    rw (toZ-ofZ f, toZ-ofZ g, ← c .before .before .before .before .before .before .before .before .before .before .before .before .before .before .before .before .picture-lead .ensures, c .before .before .before .before .before .before .before .before .before .before .before .before .before .before .a1 .given .1, ← c .before .before .before .before .before .before .before .before .before .before .before .before .slice-groups .ensures, c .before .before .before .before .before .before .before .before .before .before .a2 .given .1, ← c .before .before .before .before .before .before .before .before .picture-references .ensures, c .before .before .before .before .before .before .a3 .given .1, ← c .before .before .before .before .picture-levels .ensures, c .before .before .a4 .given .1)
+unfolding next
+returns-3 c = rw (picture-parts, ← c .before .before .before .before .before .before .before .before .picture-start .ensures, c .before .before .before .before .before .before .a1 .given .1, ← c .before .before .before .before .pass-ids .ensures, c .before .before .a2 .given .1) (c .picture-rest .ensures)
 
 pub picture-set-spec : {M : Type 1} → statement M
 picture-set-spec =
@@ -48,13 +35,4 @@ picture-set-spec =
     (λ c κs. search needs)
     returns-2
     (λ c κs. search needs)
-    (λ c. search needs)
-    (λ c. search needs)
-    (λ c κs. search needs)
-    returns-3
-    (λ c κs. search needs)
-    (λ c. search needs)
-    (λ c. search needs)
-    (λ c κs. search needs)
-    returns-4
-    returns-5)
+    returns-3)
