@@ -4,7 +4,7 @@ ghost use mathlib.Core.Bool.{true};
 ghost use mathlib.Core.Path.{_≡_};
 ghost use Prim.Native.Nat.{_+_, _*_, _<_, _≤_};
 ghost use lib.ListN.{length};
-ghost use Rattle.scan.specs.Clear.{Spot, Clear, Low, Quiet};
+ghost use Rattle.scan.specs.Clear.{Spot, Clear, pairAt, Low, Quiet};
 
 // The smaller of two bytes.
 fn lower(a: u8, b: u8) -> u8
@@ -41,13 +41,20 @@ fn wide(x: u8) -> u16
     x as u16
 }
 
-// 1 where 00 and a byte up to 03 stand at `j`. The compiler makes one load of the two bytes.
+// The bytes at `j` and behind it as one number. A function of its own, so that the compiler makes one load of them before it sees what is asked of the number.
+fn two(s: &[u8], j: usize) -> u16
+    requires { ⌜ j + 1 < length (now s) ⌝ }
+    ensures { λ r. ⌜ r ≡ pairAt (now (s .entry)) j ⌝ }
+{
+    wide(s[j]) | wide(s[j + 1]) << 8
+}
+
+// 1 where 00 and a byte up to 03 stand at `j`.
 fn low(s: &[u8], j: usize) -> u16
     requires { ⌜ j + 1 < length (now s) ⌝ }
     ensures { λ r. ⌜ (Low (now (s .entry)) j → r ≡ 1) ⌝ }
 {
-    let w = wide(s[j]) | wide(s[j + 1]) << 8;
-    if w & 0xFCFF == 0 { 1 } else { 0 }
+    if two(s, j) & 0xFCFF == 0 { 1 } else { 0 }
 }
 
 // Whether 00 and a byte up to 03 stand at none of `half` places, every other one behind `i`. Of the three bytes that are sought, those at the first two places or
