@@ -25,7 +25,7 @@ VERDICT = re.compile(r"fn (\S+): (proved|not proved|no proof)(.*)")
 UNADMITTED = re.compile(r"`([^`]+)` was not admitted")
 # What the prover says of a goal that does not follow. Any other error (an unknown name, a need that is not there) is about the text of a proof.
 UNPROVED = re.compile(
-    r"`search`: no proof of|`omega`: the goal does not follow|the two (?:types|sides|indices) |expected type `|`rw`: no occurrence of"
+    r"`search`: no proof of|`omega`: the goal does not follow|the two (?:types|sides|indices) |expected type `|`rw`: no (?:occurrence of|part of the goal )"
     r"|give a proof of that as the last argument|the two values first differ"
 )
 
