@@ -11,7 +11,7 @@ use std::io::{self, Read};
 pub struct Exposure {
     /// From 1 on.
     pub number: u64,
-    /// Where its first slice's unit begins, after its start code.
+    /// Where its first slice's unit begins, after its start code or its length.
     pub place: u64,
     /// How many slices it has.
     pub slices: u64,
