@@ -24,20 +24,20 @@ pub struct Cursor {
 
 // What an unsigned read finds.
 pub enum Read {
-    Got(u32, Cursor),
     Refused(Refusal),
+    Got(u32, Cursor),
 }
 
 // What a signed read finds.
 pub enum ReadSigned {
-    Got(i32, Cursor),
     Refused(Refusal),
+    Got(i32, Cursor),
 }
 
 // What reading a flag finds.
 pub enum ReadFlag {
-    Got(bool, Cursor),
     Refused(Refusal),
+    Got(bool, Cursor),
 }
 
 impl Cursor {

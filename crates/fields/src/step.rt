@@ -9,18 +9,18 @@ ghost use mathlib.Core.Path.{_≡_};
 ghost use Rattle.fields.specs.Steps.{whyNumber, whySigned, whyFlag, whyGiven, whyEnd};
 
 pub enum NumberStep {
-    Got(MarkedNumber, Cursor),
     Refused(Refusal),
+    Got(MarkedNumber, Cursor),
 }
 
 pub enum SignedStep {
-    Got(MarkedSigned, Cursor),
     Refused(Refusal),
+    Got(MarkedSigned, Cursor),
 }
 
 pub enum FlagStep {
-    Got(MarkedFlag, Cursor),
     Refused(Refusal),
+    Got(MarkedFlag, Cursor),
 }
 
 // A signed value that has no mark, in a struct, so that a stage's pattern binds it whole.
@@ -29,14 +29,14 @@ pub struct Signed {
 }
 
 pub enum SignedGiven {
-    Got(Signed, Cursor),
     Refused(Refusal),
+    Got(Signed, Cursor),
 }
 
 // Where reading a part that holds arrays ended; the part stands beside it.
 pub enum End {
-    At(Cursor),
     Refused(Refusal),
+    At(Cursor),
 }
 
 // The refusal of an answer that is one, for a `let .. else`, which cannot bind it.

@@ -25,8 +25,8 @@ ghost use Rattle.framed.specs.Convert.{startCode, lengthBytes, joined, b
 
 // How many bytes the result has, or why there is none.
 pub enum Converted {
-    Of(usize),
     Refused(Refusal),
+    Of(usize),
 }
 
 // The units of a recording framed by length, each behind 00 00 00 01: as long as its length, so all stand where they stood.

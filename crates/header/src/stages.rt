@@ -63,8 +63,8 @@ pub struct MarkingFlags {
 }
 
 pub enum MarkingStep {
-    Got(MarkingFlags, Cursor),
     Refused(Refusal),
+    Got(MarkingFlags, Cursor),
 }
 
 // cabac_init_idc to slice_group_change_cycle
@@ -74,8 +74,8 @@ pub struct BackParts {
 }
 
 pub enum BackStep {
-    Got(BackParts, Cursor),
     Refused(Refusal),
+    Got(BackParts, Cursor),
 }
 
 // The refusal of an answer that is one, for a `let .. else`, which cannot bind it.

@@ -31,8 +31,8 @@ ghost use Rattle.lists.specs.ListsLent.{listStep, listLeft, listBegun, w
 
 // The count, and the place after the closing code; the list stands in the words.
 pub enum ListStep {
-    Got(u32, Cursor),
     Refused(Refusal),
+    Got(u32, Cursor),
 }
 
 pub fn why_list(a: ListStep) -> Refusal
@@ -163,8 +163,8 @@ pub struct PrefixShort {
 }
 
 pub enum PrefixStep {
-    Got(PrefixShort, Cursor),
     Refused(Refusal),
+    Got(PrefixShort, Cursor),
 }
 
 fn base_marking_kind() -> ListKind

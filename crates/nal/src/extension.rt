@@ -144,8 +144,8 @@ impl NalHeaderExtension {
 
 // What reading a unit's extension finds.
 pub enum ExtensionRead {
-    Got(NalHeaderExtension),
     Refused(Refusal),
+    Got(NalHeaderExtension),
 }
 
 // The extension of a whole unit: the three bytes after the first.

@@ -12,8 +12,8 @@ pub struct NalHeader(pub u8);
 
 // What reading a first byte finds.
 pub enum NalHeaderRead {
-    Got(NalHeader),
     Refused(Refusal),
+    Got(NalHeader),
 }
 
 impl NalHeader {

@@ -36,8 +36,8 @@ pub struct Groups {
 }
 
 pub enum GroupsStep {
-    Got(Groups, Cursor),
     Refused(Refusal),
+    Got(Groups, Cursor),
 }
 
 // The refusal of an answer that is one, for a `let .. else`, which cannot bind it.

@@ -69,28 +69,28 @@ pub struct PictureStart {
 }
 
 pub enum PictureLeadStep {
-    Got(PictureLead, Cursor),
     Refused(Refusal),
+    Got(PictureLead, Cursor),
 }
 
 pub enum ReferencesStep {
-    Got(References, Cursor),
     Refused(Refusal),
+    Got(References, Cursor),
 }
 
 pub enum LevelsStep {
-    Got(Levels, Cursor),
     Refused(Refusal),
+    Got(Levels, Cursor),
 }
 
 pub enum PictureStartStep {
-    Got(PictureStart, Cursor),
     Refused(Refusal),
+    Got(PictureStart, Cursor),
 }
 
 pub enum PictureSetStep {
-    Got(PictureSet, Cursor),
     Refused(Refusal),
+    Got(PictureSet, Cursor),
 }
 
 // The refusal of an answer that is one, for a `let .. else`, which cannot bind it.

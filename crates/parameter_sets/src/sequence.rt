@@ -63,28 +63,28 @@ pub struct Size {
 }
 
 pub enum SequenceSetStep {
-    Got(SequenceSet, Cursor),
     Refused(Refusal),
+    Got(SequenceSet, Cursor),
 }
 
 enum LeadStep {
-    Got(SequenceLead, Cursor),
     Refused(Refusal),
+    Got(SequenceLead, Cursor),
 }
 
 enum ChromaStep {
-    Got(Chroma, Cursor),
     Refused(Refusal),
+    Got(Chroma, Cursor),
 }
 
 enum OrderStep {
-    Got(Order, Cursor),
     Refused(Refusal),
+    Got(Order, Cursor),
 }
 
 enum SizeStep {
-    Got(Size, Cursor),
     Refused(Refusal),
+    Got(Size, Cursor),
 }
 
 // The refusal of an answer that is one, for a `let .. else`, which cannot bind it.

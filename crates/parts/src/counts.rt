@@ -23,8 +23,8 @@ ghost use Rattle.parts.specs.Steps.{asActiveCounts, whyActiveCounts};
 const MOST: u32 = 31;
 
 pub enum ActiveCountsStep {
-    Got(ActiveCounts, Cursor),
     Refused(Refusal),
+    Got(ActiveCounts, Cursor),
 }
 
 // The refusal of an answer that is one, for a `let .. else`, which cannot bind it.

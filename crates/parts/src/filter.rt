@@ -21,8 +21,8 @@ ghost use Rattle.syntax.specs.SliceHeader.{filter};
 ghost use Rattle.parts.specs.Steps.{asFilter, whyFilter};
 
 pub enum FilterStep {
-    Got(Filter, Cursor),
     Refused(Refusal),
+    Got(Filter, Cursor),
 }
 
 // The refusal of an answer that is one, for a `let .. else`, which cannot bind it.

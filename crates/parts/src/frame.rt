@@ -19,8 +19,8 @@ ghost use Rattle.syntax.specs.SliceHeader.{frame};
 ghost use Rattle.parts.specs.Steps.{asFrame, whyFrame};
 
 pub enum FrameStep {
-    Got(Frame, Cursor),
     Refused(Refusal),
+    Got(Frame, Cursor),
 }
 
 // The refusal of an answer that is one, for a `let .. else`, which cannot bind it.

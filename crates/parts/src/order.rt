@@ -23,13 +23,13 @@ ghost use Rattle.syntax.specs.SliceHeader.{deltas, orderCount};
 ghost use Rattle.parts.specs.Steps.{asDeltas, asOrderCount, whyDeltas, whyOrderCount};
 
 pub enum OrderCountStep {
-    Got(OrderCount, Cursor),
     Refused(Refusal),
+    Got(OrderCount, Cursor),
 }
 
 enum DeltasStep {
-    Got(Deltas, Cursor),
     Refused(Refusal),
+    Got(Deltas, Cursor),
 }
 
 // The refusal of an answer that is one, for a `let .. else`, which cannot bind it.

@@ -27,8 +27,8 @@ ghost use Rattle.syntax.specs.SliceHeader.{quantiser};
 ghost use Rattle.parts.specs.Steps.{asQuantiser, whyQuantiser};
 
 pub enum QuantiserStep {
-    Got(Quantiser, Cursor),
     Refused(Refusal),
+    Got(Quantiser, Cursor),
 }
 
 // The refusal of an answer that is one, for a `let .. else`, which cannot bind it.

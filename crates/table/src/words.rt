@@ -21,14 +21,14 @@ ghost use Rattle.table.specs.Tables.{sequenceMarks, pictureMarks, cycleW
 
 // What a look-up finds.
 pub enum FoundSequence {
-    There(Sequence),
     Absent,
+    There(Sequence),
 }
 
 // With a picture set stands its change cycle's width.
 pub enum FoundPicture {
-    There(Picture, u32),
     Absent,
+    There(Picture, u32),
 }
 
 // What a change of the table answers.

@@ -25,8 +25,8 @@ pub struct UnitHead {
 }
 
 pub enum HeadRead {
-    Got(UnitHead),
     Refused(Refusal),
+    Got(UnitHead),
 }
 
 fn head_extended(unit: &[u8], h: NalHeader) -> HeadRead

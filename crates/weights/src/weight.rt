@@ -16,8 +16,8 @@ ghost use Rattle.weights.specs.Steps.{asWeight, whyWeight, asLuma, whyLu
 ghost use Rattle.weights.specs.Halves.{lumaHalf, chromaHalf};
 
 pub enum WeightStep {
-    Got(Weight, Cursor),
     Refused(Refusal),
+    Got(Weight, Cursor),
 }
 
 struct Luma {
@@ -27,8 +27,8 @@ struct Luma {
 }
 
 enum LumaStep {
-    Got(Luma, Cursor),
     Refused(Refusal),
+    Got(Luma, Cursor),
 }
 
 struct Chroma {
@@ -40,8 +40,8 @@ struct Chroma {
 }
 
 enum ChromaStep {
-    Got(Chroma, Cursor),
     Refused(Refusal),
+    Got(Chroma, Cursor),
 }
 
 // The refusal of an answer that is one.

@@ -47,8 +47,8 @@ pub enum WeightsStep {
 
 // How many entries a list has.
 enum ListStep {
-    Got(u32, Cursor),
     Refused(Refusal),
+    Got(u32, Cursor),
 }
 
 // The refusal of an answer that is one.

@@ -26,8 +26,8 @@ pub struct ExtensionGiven {
 
 // The kind of the unit that the header is written for.
 pub(crate) enum KindGiven {
-    Of(UnitKind),
     Refused(Refusal),
+    Of(UnitKind),
 }
 
 // The refusal of an answer that is one, for a `let .. else`, which cannot bind it.

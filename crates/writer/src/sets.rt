@@ -17,8 +17,8 @@ ghost use Rattle.writer.specs.Write.{whySets, setsFor};
 
 // The picture set with its change cycle's width, and the sequence set.
 pub(crate) enum SetsFor {
-    There(Picture, u32, Sequence),
     Refused(Refusal),
+    There(Picture, u32, Sequence),
 }
 
 // The refusal of an answer that is one, for a `let .. else`, which cannot bind it.
