@@ -1,5 +1,5 @@
 -- What each read finds in the bits of bytes, a law for each case, so that nobody need unfold `fixedAt` and `ueAt`. And that a code's value is at most 2 ^ 32 - 2.
-use mathlib.Core.Path.{_≡_, refl, sym, subst, _∙_}
+use mathlib.Core.Path.{_≡_, refl, sym, ap, subst, _∙_}
 use mathlib.Core.List.{List, [], _∷_}
 use mathlib.Core.Bool.{Bool, true, false}
 use Prim.Native.Nat.{ℕ, zero, suc, _+_, _-_, _*_, _/_, _^_, _≤_, _<_}
@@ -19,7 +19,7 @@ use Rattle.bits.specs.Bits.{Bits, numberOf, bytesBits, reach, bitsOf}
 use Rattle.bits.specs.Codes.{fixedAt, suffixAt, codeAt, ueAt}
 use Rattle.bits.specs.Windows.{bitAt, bitsAt}
 use Rattle.bits.proofs.Digits.{number-lt}
-use Rattle.bits.proofs.Windows.{bit-lt, bit-past, bits-first, bits-take, leading-set, leading-lt, code-bits, code-range, value-lt}
+use Rattle.bits.proofs.Windows.{bit-lt, bit-past, bits-first, bits-take, bits-set, under, front, leading-set, leading-none, leading-lt, code-bits, code-range, value-lt}
 use Rattle.bits.proofs.Slices.{length-bytes, take-reached}
 use Rattle.bits.proofs.Bridge.{left-cons, left-nil, left-length, field-bits}
 
@@ -169,6 +169,32 @@ module _ (s : List ℕ) (p w r : ℕ) (f : (r ≤ length s) × (r ≤ reach) × 
   ue-near l k =
       rw (cut, code l k)
       (ue-in (take r s) p (leadingZeros 32 w) (set l k) (omega (arith, few w l k)) (there (2 * leadingZeros 32 w + 1) (omega (arith, few w l k))))
+
+-- ---- by a window of 32 bits that the bytes end in: at most 31 of its bits are theirs, and zeros follow them
+
+module _ (s : List ℕ) (p w : ℕ) (e : w ≡ bitsAt s p 32) (g : 8 * length s < p + 32) where
+  last-set : p + (2 * leadingZeros 32 w + 1) ≤ 8 * length s → bitsAt s p (leadingZeros 32 w + 1) ≡ 1
+  last-set h = bits-set s p 32 w e (omega arith)
+
+  last-code : p + (2 * leadingZeros 32 w + 1) ≤ 8 * length s → w / 2 ^ (32 - (2 * leadingZeros 32 w + 1)) ≡ bitsAt s p (2 * leadingZeros 32 w + 1)
+  last-code h =
+      let n : ℕ = 2 * leadingZeros 32 w + 1 in
+      ap (λ (x : ℕ). x / 2 ^ (32 - n)) e ∙ front s p n (32 - n) 32 (omega arith)
+
+  pub last-pos : p + (2 * leadingZeros 32 w + 1) ≤ 8 * length s → 0 < w / 2 ^ (32 - (2 * leadingZeros 32 w + 1))
+  last-pos h = rw (last-code h) (code-range s p (leadingZeros 32 w) (last-set h) (omega arith) .0)
+
+  pub ue-last : p + (2 * leadingZeros 32 w + 1) ≤ 8 * length s
+      → ueAt (bytesBits s) p ≡ got (w / 2 ^ (32 - (2 * leadingZeros 32 w + 1)) - 1) (p + (2 * leadingZeros 32 w + 1))
+  ue-last h = rw (last-code h) (ue-in s p (leadingZeros 32 w) (last-set h) (omega arith) h)
+
+  -- without a set bit they are zeros up to the end
+  pub ue-last-short : p ≤ 8 * length s → 8 * length s < p + (2 * leadingZeros 32 w + 1) → ueAt (bytesBits s) p ≡ no (refusalAt ranOut (pos 0) p)
+  ue-last-short l h = go (decLt (leadingZeros 32 w) 32)
+    where
+      go : Dec (leadingZeros 32 w < 32) → ueAt (bytesBits s) p ≡ no (refusalAt ranOut (pos 0) p)
+      go (yes k) = ue-short s p (leadingZeros 32 w) (bits-set s p 32 w e k) k h
+      go (Dec.no k) = ue-end s p (sym e ∙ leading-none 32 w (under s p 32 w e) (omega arith)) l g
 
 -- ---- how large a value is, whatever the bits
 

@@ -4,12 +4,13 @@ use crate::refusals::Refusal;
 use crate::refusals::TOO_MANY_ZEROS;
 use crate::refusals::no_refusal;
 use crate::refusals::refuse_at;
+use crate::window::last_window;
 use crate::window::long_window;
 use crate::window::reached;
 use crate::window::short_window;
 use crate::window::within;
 ghost use mathlib.Core.Path.{_≡_};
-ghost use Prim.Native.Nat.{_-_, _*_, _^_, _≤_, _<_};
+ghost use Prim.Native.Nat.{_+_, _-_, _*_, _^_, _≤_, _<_};
 ghost use lib.ListN.{length};
 ghost use Rattle.bits.specs.Bits.{reach, bitsOf, bytesBits};
 ghost use Rattle.bits.specs.Codes.{widthOf, fixedAt, uAt, flagAt, ueAt, seAt, seOf};
@@ -22,7 +23,7 @@ pub struct Cursor {
     pub at: usize,
 }
 
-// What an unsigned read finds.
+// What an unsigned read finds. In every answer the refusal is the first variant: the compiler takes a tag of 0 for the rare one.
 pub enum Read {
     Refused(Refusal),
     Got(u32, Cursor),
@@ -146,13 +147,21 @@ fn flag_at(s: &[u8], at: usize) -> ReadFlag
 }
 
 // The code or the n bits at a place, wherever they lie: what `ue` and `bits` do near the end, and for long codes and wide fields. One function, so that the
-// compiler keeps it out of line and what comes before it goes into the callers.
+// compiler keeps it out of line and what comes before it goes into the callers. A short unit calls it from the last 31 bits alone, so these have a way of their own.
 fn slow(s: &[u8], at: usize, code: bool, n: u32) -> Read
     requires { ⌜ (length (now s) ≤ reach) × (n ≤ 32) ⌝ }
     ensures { λ r. ⌜ asRead r ≡ pick code (ueAt (bytesBits (now (s .entry))) at) (fixedAt n (bytesBits (now (s .entry))) at) ⌝ }
 {
-    if s.len() * 8 < at {
+    let m = s.len();
+    if m * 8 < at {
         return Read::Refused(refuse_at(RAN_OUT, 0, at));
+    }
+    if at < m * 8 {
+        if m * 8 - at < 32 {
+            if 4 <= m {
+                return last_bits(s, at, code, n);
+            }
+        }
     }
     let w = long_window(s, at);
     if code {
@@ -160,6 +169,45 @@ fn slow(s: &[u8], at: usize, code: bool, n: u32) -> Read
     } else {
         fixed_in(s, at, w, n)
     }
+}
+
+// The code or the n bits at a place of the last 31 bits.
+fn last_bits(s: &[u8], at: usize, code: bool, n: u32) -> Read
+    requires { ⌜ (length (now s) ≤ reach) × (4 ≤ length (now s)) × (8 * length (now s) < at + 32) × (at < 8 * length (now s)) × (n ≤ 32) ⌝ }
+    ensures { λ r. ⌜ asRead r ≡ pick code (ueAt (bytesBits (now (s .entry))) at) (fixedAt n (bytesBits (now (s .entry))) at) ⌝ }
+{
+    let w = last_window(s, at);
+    if code {
+        last_code(s, at, w)
+    } else {
+        last_fixed(s, at, w, n)
+    }
+}
+
+// The n bits at a place of the last 31 bits, whose window is w.
+fn last_fixed(s: &[u8], at: usize, w: u32, n: u32) -> Read
+    requires { ⌜ (length (now s) ≤ reach) × (at ≤ 8 * length (now s)) × (w ≡ bitsAt (now s) at 32) × (n ≤ 32) ⌝ }
+    ensures { λ r. ⌜ asRead r ≡ fixedAt n (bytesBits (now (s .entry))) at ⌝ }
+{
+    let left = s.len() * 8 - at;
+    if left < n as usize {
+        return Read::Refused(refuse_at(RAN_OUT, 0, at));
+    }
+    let next = at + n as usize;
+    Read::Got(((w as u64) >> (32 - n)) as u32, Cursor { at: next })
+}
+
+// The ue(v) code at a place of the last 31 bits, whose window is w. Where no bit is set 32 zeros are counted, and a code of 65 bits runs out.
+fn last_code(s: &[u8], at: usize, w: u32) -> Read
+    requires { ⌜ (length (now s) ≤ reach) × (at ≤ 8 * length (now s)) × (8 * length (now s) < at + 32) × (w ≡ bitsAt (now s) at 32) ⌝ }
+    ensures { λ r. ⌜ asRead r ≡ ueAt (bytesBits (now (s .entry))) at ⌝ }
+{
+    let left = s.len() * 8 - at;
+    let size = 2 * (u32::leading_zeros(w) as usize) + 1;
+    if size <= left {
+        return Read::Got((w >> (32 - size)) - 1, Cursor { at: at + size });
+    }
+    Read::Refused(refuse_at(RAN_OUT, 0, at))
 }
 
 // The n bits at a place, whose window is w.

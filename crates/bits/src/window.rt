@@ -67,6 +67,15 @@ pub(crate) fn short_window(s: &[u8], at: usize) -> u32
     four(s, at / 8) << (at % 8)
 }
 
+// The 32 bits from bit `at` on, of which the slice has the first 31 at most: its last 32 bits, shifted up.
+pub(crate) fn last_window(s: &[u8], at: usize) -> u32
+    requires { ⌜ (length (now s) ≤ reach) × (4 ≤ length (now s)) × (8 * length (now s) < at + 32) × (at < 8 * length (now s)) ⌝ }
+    ensures { λ r. ⌜ r ≡ bitsAt (now (s .entry)) at 32 ⌝ }
+{
+    let m = s.len();
+    four(s, m - 4) << (32 - (m * 8 - at))
+}
+
 // The 8 bits of byte i, zeros past the end.
 fn one_or_zeros(s: &[u8], i: usize) -> u64
     ensures { λ r. ⌜ r ≡ bitsAt (now (s .entry)) (8 * i) 8 ⌝ }

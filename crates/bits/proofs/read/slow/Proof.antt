@@ -14,17 +14,14 @@ returns c =
     (λ e. rw e (sym (ue-past (a .s .now) (a .at) (omega arith))))
     (λ e. rw e (sym (fixed-out (a .s .now) (a .at) (a .n) (omega arith)))))
 
-code-in-requires : tie.Need-code-in-requires
-code-in-requires c κs = (c .before .before .before .before .pre .0, omega arith, c .before .long-window .ensures)
-
-fixed-in-requires : tie.Need-fixed-in-requires
-fixed-in-requires c κs = (c .before .before .before .before .pre .0, omega arith, c .before .long-window .ensures, c .before .before .before .before .pre .1)
-
-returns-2 : tie.Need-returns-2
-returns-2 c = rw (c .before .if2 .taken) (c .code-in .ensures)
+last-bits-requires : tie.Need-last-bits-requires
+last-bits-requires c κs = search needs
 
 returns-3 : tie.Need-returns-3
-returns-3 c = rw (c .before .if2 .left) (c .fixed-in .ensures)
+returns-3 c = rw (c .before .if5 .taken) (c .code-in .ensures)
+
+returns-4 : tie.Need-returns-4
+returns-4 c = rw (c .before .if5 .left) (c .fixed-in .ensures)
 
 pub slow-spec : {M : Type 1} → statement M
 slow-spec =
@@ -33,8 +30,13 @@ slow-spec =
     (λ c. search needs)
     (λ c κs. search needs)
     returns
+    (λ c. search needs)
+    (λ c. search needs)
+    (λ c. search needs)
+    last-bits-requires
+    (λ c. search needs)
     (λ c κs. search needs)
-    code-in-requires
-    fixed-in-requires
-    returns-2
-    returns-3)
+    (λ c κs. search needs)
+    (λ c κs. search needs)
+    returns-3
+    returns-4)
