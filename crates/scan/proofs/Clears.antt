@@ -9,8 +9,8 @@ use native.Mathlib.Decide.{decLt}
 use lib.Dec.{eqb, leb}
 use lib.Bits.{bitAnd, bitOr, bitXor, and-mask, and-le-l, and-le-r, or-add-and, xor-self}
 use borrow.Author.Tests.{eqb-true, leb-true, le-leb}
-use lib.ListN.{length, getD, drop, length-drop}
-use lib.Seq.{drop-drop}
+use lib.ListN.{length, getD, set, drop, length-drop}
+use lib.Seq.{drop-drop, getD-set-same, getD-set-other}
 use Rattle.scan.specs.Scan.{hit, upto}
 use Rattle.scan.specs.Clear.{Spot, Clear, Low, Quiet}
 use Rattle.scan.proofs.Hits.{hit-drop, hit-yes, hit-room, upto-miss, upto-le, upto-before}
@@ -53,8 +53,9 @@ low-zero x (suc (suc zero)) e h = rw e
 low-zero x (suc (suc (suc zero))) e h = rw e
 low-zero x (suc (suc (suc (suc y)))) e h = absurd (omega arith)
 
-pub quiet-step : (s : List ℕ) (i k x t : ℕ) → (x ≡ 0 → Quiet s i k) → (Low s (i + 1 + 2 * k) → t ≡ 1) → bitOr x t ≡ 0 → Quiet s i (k + 1)
-quiet-step s i k x t c d e j h p = go (decLt j k)
+-- one place more: what stands at it makes the test's answer 1
+pub none-step : (stands : ℕ → Type 0) (k x t : ℕ) → (x ≡ 0 → (j : ℕ) → j < k → stands j → ⊥) → (stands k → t ≡ 1) → bitOr x t ≡ 0 → (j : ℕ) → j < k + 1 → stands j → ⊥
+none-step stands k x t c d e j h p = go (decLt j k)
   where
     go : Dec (j < k) → ⊥
     go (yes l) = c (or-zero x t e .0) j l p
@@ -76,6 +77,38 @@ clear-quiet m f s i half c j a b p = go (decLt ((j - i) % 2) 1)
         let q : j ≡ i + 1 + 2 * k = omega arith in
         let r : getD s (i + 1 + 2 * k + 1) 0 ≡ 0 = rw q at (p .two) in
         c k (omega arith) (record { one = rw q at (p .one); two = omega (arith, r) })
+
+-- ---- the least of four quarters
+
+-- each of the first k bytes of t is at most those of s at its place in the four quarters behind i
+abbrev pub Least : List ℕ → ℕ → List ℕ → ℕ → Type 0
+Least s i t k = (r : ℕ) → r < k → (q : ℕ) → q < 4 → getD t r 0 ≤ getD s (i + 1 + r + 32 * q) 0
+
+pub least-step : (s : List ℕ) (i : ℕ) (t : List ℕ) (k x : ℕ) → k < length t → Least s i t k
+    → x ≤ getD s (i + 1 + k) 0 → x ≤ getD s (i + 1 + k + 32) 0 → x ≤ getD s (i + 1 + k + 64) 0 → x ≤ getD s (i + 1 + k + 96) 0 → Least s i (set t k x) (k + 1)
+least-step s i t k x h c a0 a1 a2 a3 r l q m = go (decLt r k)
+  where
+    at : (n : ℕ) → n < 4 → x ≤ getD s (i + 1 + k + 32 * n) 0
+    at zero g = rw add-zero a0
+    at (suc zero) g = a1
+    at (suc (suc zero)) g = a2
+    at (suc (suc (suc zero))) g = a3
+    at (suc (suc (suc (suc n)))) g = absurd (omega arith)
+
+    go : Dec (r < k) → getD (set t k x) r 0 ≤ getD s (i + 1 + r + 32 * q) 0
+    go (yes g) = rw (getD-set-other t k r x 0 (λ e. omega arith)) (c r g q m)
+    go (no g) = let e : r ≡ k = omega arith in rw (e, getD-set-same t k x 0 h) (at q m)
+
+-- a low pair of a quarter is low among the least
+pub quiet-least : (s : List ℕ) (i : ℕ) (t : List ℕ) → Least s i t 32 → ((p : ℕ) → p < 16 → Low t (2 * p) → ⊥) → Quiet s i 64
+quiet-least s i t l c k h low =
+    let p = k % 16 in
+    let q = k / 16 in
+    let e : i + 1 + 2 * p + 32 * q ≡ i + 1 + 2 * k = omega arith in
+    let f : i + 1 + (2 * p + 1) + 32 * q ≡ i + 1 + 2 * k + 1 = omega arith in
+    let a : getD t (2 * p) 0 ≤ getD s (i + 1 + 2 * k) 0 = rw e at (l (2 * p) (omega arith) q (omega arith)) in
+    let b : getD t (2 * p + 1) 0 ≤ getD s (i + 1 + 2 * k + 1) 0 = rw f at (l (2 * p + 1) (omega arith) q (omega arith)) in
+    c p (omega arith) (record { one = omega (arith, a, low .one); two = omega (arith, b, low .two) })
 
 -- ---- the first place of a block
 

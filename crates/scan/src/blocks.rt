@@ -1,5 +1,6 @@
 // Passing over blocks in which nothing begins that is sought. One test of three bytes serves every kind: `mask` and `flip` take the third byte to 0 where it is
-// one that is sought, and none over 3 is. The loops of a block have a fixed count and no branch, so that the compiler makes vectors of them.
+// one that is sought, and none over 3 is. Before it stands a cheaper one, for a pair of low bytes, which passes most blocks. The loops of a block have a fixed count
+// and no branch, so that the compiler makes vectors of them.
 ghost use mathlib.Core.Bool.{true};
 ghost use mathlib.Core.Path.{_≡_};
 ghost use Prim.Native.Nat.{_+_, _*_, _<_, _≤_};
@@ -83,6 +84,40 @@ fn is_passed(s: &[u8], i: usize, half: usize, mask: u8, flip: u8) -> bool
     is_clear(s, i, 2 * half, mask, flip)
 }
 
+// Whether 00 and a byte up to 03 stand at none of 64 places, every other one behind `i`, told by the least of the four bytes that stand 32 places apart: a pair in one
+// of the four quarters is one among the least too, so that 16 tests do for 64. Two quarters together may look like a pair: of random blocks one in 64 is not calm,
+// where one in 256 is not quiet.
+fn is_calm(s: &[u8], i: usize) -> bool
+    requires { ⌜ i + 130 ≤ length (now s) ⌝ }
+    ensures { λ r. ⌜ (r ≡ true → Quiet (now (s .entry)) i 64) ⌝ }
+{
+    let mut t = [0u8; 32];
+    let mut k: usize = 0;
+    while k < 32 {
+        let j = i + 1 + k;
+        t[k] = lower(lower(s[j], s[j + 32]), lower(s[j + 64], s[j + 96]));
+        k += 1;
+    }
+    let mut m: u16 = 0;
+    let mut p: usize = 0;
+    while p < 16 {
+        m = m | low(&t, 2 * p);
+        p += 1;
+    }
+    m == 0
+}
+
+// Whether nothing that is sought begins at any of 128 places: as `is_passed` tells it, with fewer steps for a block that is calm, as most are.
+fn is_passed_large(s: &[u8], i: usize, mask: u8, flip: u8) -> bool
+    requires { ⌜ i + 130 ≤ length (now s) ⌝ }
+    ensures { λ r. ⌜ (r ≡ true → Clear mask flip (now (s .entry)) i (i + 128)) ⌝ }
+{
+    if is_calm(s, i) {
+        return true;
+    }
+    is_clear(s, i, 128, mask, flip)
+}
+
 // `k` where `x` is 0, and else `count`.
 fn place_of(x: u8, k: u8, count: u8) -> u8
     ensures { λ r. ⌜ (x ≡ 0 → r ≤ k) ⌝ }
@@ -105,17 +140,34 @@ fn first_of(s: &[u8], i: usize, count: u8, mask: u8, flip: u8) -> u8
     m
 }
 
-// A place from `from` on before which nothing begins that is sought: by blocks of `2 * half` bytes.
-fn pass_blocks(s: &[u8], from: usize, half: usize, mask: u8, flip: u8) -> usize
+// A place from `from` on before which nothing begins that is sought: by blocks of 128 bytes. This, `is_passed_large` and `is_calm` have one caller each,
+// so that the compiler makes one loop of them.
+fn pass_large(s: &[u8], from: usize, mask: u8, flip: u8) -> usize
     requires { ⌜ from ≤ length (now s) ⌝ }
-    requires { ⌜ (0 < half) × (half ≤ 64) ⌝ }
     ensures { λ r. ⌜ (from ≤ r) × (r ≤ length (now (s .entry))) × Clear mask flip (now (s .entry)) from r ⌝ }
 {
     let n = s.len();
     let mut i = from;
-    while 2 * half + 2 <= n - i {
-        if is_passed(s, i, half, mask, flip) {
-            i += 2 * half;
+    while 130 <= n - i {
+        if is_passed_large(s, i, mask, flip) {
+            i += 128;
+        } else {
+            return i;
+        }
+    }
+    i
+}
+
+// The same by blocks of 16.
+fn pass_small(s: &[u8], from: usize, mask: u8, flip: u8) -> usize
+    requires { ⌜ from ≤ length (now s) ⌝ }
+    ensures { λ r. ⌜ (from ≤ r) × (r ≤ length (now (s .entry))) × Clear mask flip (now (s .entry)) from r ⌝ }
+{
+    let n = s.len();
+    let mut i = from;
+    while 18 <= n - i {
+        if is_passed(s, i, 8, mask, flip) {
+            i += 16;
         } else {
             return i;
         }
@@ -137,7 +189,7 @@ fn pass_end(s: &[u8], from: usize, mask: u8, flip: u8) -> usize
             return from;
         }
     }
-    pass_blocks(s, from, 8, mask, flip)
+    pass_small(s, from, mask, flip)
 }
 
 // The same within 128 bytes: the place itself, or near the end a place that is near it.
@@ -157,7 +209,7 @@ pub(crate) fn pass_over(s: &[u8], from: usize, mask: u8, flip: u8) -> usize
     requires { ⌜ from ≤ length (now s) ⌝ }
     ensures { λ r. ⌜ (from ≤ r) × (r ≤ length (now (s .entry))) × Clear mask flip (now (s .entry)) from r ⌝ }
 {
-    let i = pass_blocks(s, from, 64, mask, flip);
+    let i = pass_large(s, from, mask, flip);
     pass_near(s, i, mask, flip)
 }
 

@@ -3,8 +3,8 @@ use borrow.Author.Tests.{eqb-true}
 use native.Mathlib.Omega.{arith}
 use mathlib.Core.Path.{_≡_}
 use Prim.Native.Nat.{ℕ, _+_, _-_, _*_, _≤_, _<_}
-use Rattle.scan.specs.Clear.{Quiet}
-use Rattle.scan.proofs.Clears.{quiet-step}
+use Rattle.scan.specs.Clear.{Low, Quiet}
+use Rattle.scan.proofs.Clears.{none-step}
 use Rattle.scan.proofs.blocks.is_quiet.Statement.{statement}
 use Rattle.scan.proofs.blocks.is_quiet.Tie as tie
 
@@ -21,7 +21,7 @@ loop-again : tie.Need-loop-again Inv-loop μ-loop
 loop-again c =
     let l = c .before .before in
     let a = l .before .before .args in
-    (omega arith, quiet-step (a .s .now) (a .i) (l .loop .k) (l .loop .m) (c .low .result) (l .loop .inv .1) (c .low .ensures))
+    (omega arith, none-step (λ (k : ℕ). Low (a .s .now) (a .i + 1 + 2 * k)) (l .loop .k) (l .loop .m) (c .low .result) (l .loop .inv .1) (c .low .ensures))
 
 returns : tie.Need-returns Inv-loop μ-loop
 returns c = λ e.

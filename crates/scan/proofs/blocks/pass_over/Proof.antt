@@ -10,7 +10,7 @@ returns c =
     let a = p .before .before .args in (
       omega arith,
       omega arith,
-      clear-join (a .mask) (a .flip) (a .s .now) (a .from) (p .pass-blocks .result) (c .pass-near .result) (p .pass-blocks .ensures .2) (c .pass-near .ensures .2),
+      clear-join (a .mask) (a .flip) (a .s .now) (a .from) (p .pass-large .result) (c .pass-near .result) (p .pass-large .ensures .2) (c .pass-near .ensures .2),
     )
 
 pub pass-over-spec : {M : Type 1} → statement M

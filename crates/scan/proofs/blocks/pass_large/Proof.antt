@@ -1,17 +1,17 @@
 use borrow.Author.Needs.{needs}
 use native.Mathlib.Omega.{arith}
-use Prim.Native.Nat.{ℕ, _+_, _-_, _*_, _≤_, _<_}
+use Prim.Native.Nat.{ℕ, _+_, _-_, _≤_, _<_}
 use lib.ListN.{length}
 use Rattle.scan.specs.Clear.{Clear}
 use Rattle.scan.proofs.Clears.{clear-join}
-use Rattle.scan.proofs.blocks.pass_blocks.Statement.{statement}
-use Rattle.scan.proofs.blocks.pass_blocks.Tie as tie
+use Rattle.scan.proofs.blocks.pass_large.Statement.{statement}
+use Rattle.scan.proofs.blocks.pass_large.Tie as tie
 
 abbrev Inv-loop : tie.InvT-loop
-Inv-loop s from half mask flip n i₀ i = (from ≤ i) × (i ≤ length s) × Clear mask flip s from i
+Inv-loop s from mask flip n i₀ i = (from ≤ i) × (i ≤ length s) × Clear mask flip s from i
 
 abbrev μ-loop : tie.MeasureT-loop
-μ-loop s from half mask flip n i₀ i = length s - i
+μ-loop s from mask flip n i₀ i = length s - i
 
 loop-holds : tie.Need-loop-holds Inv-loop μ-loop
 loop-holds c = (omega arith, omega arith, λ j a b p. absurd (omega arith))
@@ -22,7 +22,7 @@ loop-again c =
     let a = l .before .before .args in (
       omega arith,
       omega arith,
-      clear-join (a .mask) (a .flip) (a .s .now) (a .from) (l .loop .i) (l .loop .i + 2 * a .half) (l .loop .inv .2) (c .before .is-passed .ensures (c .if1 .taken)),
+      clear-join (a .mask) (a .flip) (a .s .now) (a .from) (l .loop .i) (l .loop .i + 128) (l .loop .inv .2) (c .before .is-passed-large .ensures (c .if1 .taken)),
     )
 
 returns : tie.Need-returns Inv-loop μ-loop
@@ -31,18 +31,15 @@ returns c = c .before .before .before .loop .inv
 returns-2 : tie.Need-returns-2 Inv-loop μ-loop
 returns-2 c = c .before .loop .inv
 
-pub pass-blocks-spec : {M : Type 1} → statement M
-pass-blocks-spec =
+pub pass-large-spec : {M : Type 1} → statement M
+pass-large-spec =
     tie.close
     (tie.spec
     Inv-loop
     μ-loop
     loop-holds
     (λ c. search needs)
-    (λ c. search needs)
-    (λ c. search needs)
     (λ c κs. search needs)
-    (λ c. search needs)
     (λ c. search needs)
     (λ c. search needs)
     loop-again
