@@ -83,11 +83,11 @@ fn fill(s: &[u8], c: Cursor, kind: ListKind, words: &mut [u32; 198]) -> ListStep
     let mut count: u32 = 0;
     let mut at = c;
     let got = loop {
-        let a = tested(s, at, kind.greatest, kind.number);
+        let a = tested(s, at, kind.greatest as u32, kind.number);
         let Read::Got(code, c1) = a else {
             return ListStep::Refused(why(a));
         };
-        if code == kind.closing {
+        if code == kind.closing as u32 {
             break Filled { count, at: c1 };
         }
         if 66 <= count {

@@ -7,7 +7,7 @@ ghost use Rattle.syntax.specs.SliceHeader.{modificationKind};
 ghost use Rattle.lists.specs.Kinds.{kindOf};
 
 // The greatest code: with views, 5.
-fn greatest(mvc: bool) -> u32
+fn greatest(mvc: bool) -> u8
     ensures { λ r. ⌜ r ≡ pick mvc 5 3 ⌝ }
 {
     if mvc { 5 } else { 3 }

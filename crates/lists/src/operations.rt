@@ -2,12 +2,12 @@
 ghost use mathlib.Core.Path.{_≡_};
 ghost use Rattle.lists.specs.Kinds.{kindOf};
 
-// What tells one list's syntax from another's.
+// What tells one list's syntax from another's. Four bytes in all, so that it is handed on in a register.
 pub struct ListKind {
     // the code that ends the list
-    pub closing: u32,
+    pub closing: u8,
     // the greatest code, and the refusal of a greater one
-    pub greatest: u32,
+    pub greatest: u8,
     pub number: u8,
     // operands as in dec_ref_pic_marking( ): code 5 has none and code 3 has two; else each code has one
     pub marking: bool,

@@ -14,12 +14,6 @@ use Rattle.syntax.specs.SliceHeader.{weightList, predWeightTable}
 use Rattle.syntax.specs.declared.context.Context.{Context}
 use Rattle.syntax.specs.declared.record.PredWeightTable.{PredWeightTable}
 use Rattle.syntax.specs.Absent.{noTable}
-use Rattle.weights.specs.Counts.{atMost32}
-
-pub at-most-if : (b : Bool) (n : ℕ) → atMost32 (pick b n 0) ≡ pick b (atMost32 n) 0
-unfolding atMost32
-at-most-if true n = refl
-at-most-if false n = refl
 
 module _ (x : Context) (k m n : ℕ) (s : Bits) (at : ℕ) where
   pub table-absent : isWeighted x k ≡ false → predWeightTable x k m n .read s at ≡ got noTable at

@@ -3,7 +3,6 @@ use crate::list::at_most_32;
 use crate::weight::WeightStep;
 use crate::weight::weight;
 use crate::weight::why_weight;
-use crate::weights::count_if;
 use bits::read::Cursor;
 use bits::read::Read;
 use bits::read::why;
@@ -25,6 +24,7 @@ ghost use lib.IntN.{pos};
 ghost use lib.ListN.{replicate};
 ghost use lib.Seq.{sets};
 ghost use Rattle.bits.specs.Bits.{bitsOf};
+ghost use Rattle.bits.specs.Refusals.{pick};
 ghost use Rattle.syntax.specs.SliceHeader.{weightList, predWeightTable};
 ghost use Rattle.weights.specs.Counts.{atMost32};
 ghost use Rattle.weights.specs.WeightsLent.{flagWord, entryWords, entriesBegun, l0Begun, l1Begun, emptiedWeights, weightsStep, whyWeights, listStep, whyList};
@@ -140,6 +140,24 @@ fn list_into(s: &[u8], c: Cursor, chroma: bool, n: u32, words: &mut [i32; 256]) 
     ListStep::Got(count, at)
 }
 
+// A list that is there only under a condition: where it is not, it costs no call.
+fn list_if(
+    s: &[u8],
+    c: Cursor,
+    there: bool,
+    chroma: bool,
+    n: u32,
+    words: &mut [i32; 256],
+) -> ListStep
+    ensures { λ r. ⌜ r ≡ listStep (weightList chroma (pick there (atMost32 n) 0) .read (bitsOf (now (s .entry))) (c .at)) ⌝ }
+    ensures { λ r. ⌜ now (words .exit) ≡ sets (now (words .entry)) 0 (entriesBegun chroma (pick there (atMost32 n) 0) (bitsOf (now (s .entry))) (c .at)) ⌝ }
+{
+    if !there {
+        return ListStep::Got(0, c);
+    }
+    list_into(s, c, chroma, n, words)
+}
+
 // The table for lists of n0 and n1 references, at most 32 each. Words that hold no entry stay as they were; beside a refusal the words hold the entries that were
 // read before it, as with `operations_onto`.
 pub fn weights_onto(
@@ -184,7 +202,7 @@ pub fn weights_onto(
     let ListStep::Got(k0, c3) = a3 else {
         return WeightsStep::Refused(why_list(a3));
     };
-    let a4 = list_into(s, c3, chroma, count_if(is_type(slice_type, B), n1), w1);
+    let a4 = list_if(s, c3, is_type(slice_type, B), chroma, n1, w1);
     let ListStep::Got(k1, c4) = a4 else {
         return WeightsStep::Refused(why_list(a4));
     };

@@ -43,14 +43,20 @@ pub(crate) fn put_operations(
     while i < count {
         let k = 3 * (i as usize);
         let code = words[k];
-        if code == kind.closing {
+        if code == kind.closing as u32 {
             return Cursor { at: NOWHERE };
         }
-        let next = put_tested(d, at, code, kind.greatest, kind.number);
+        let next = put_tested(d, at, code, kind.greatest as u32, kind.number);
         at = put_operands(d, next, kind, code, words[k + 1], words[k + 2]);
         i += 1;
     }
-    put_tested(d, at, kind.closing, kind.greatest, kind.number)
+    put_tested(
+        d,
+        at,
+        kind.closing as u32,
+        kind.greatest as u32,
+        kind.number,
+    )
 }
 
 // A list that is there only under a condition.

@@ -19,15 +19,15 @@ enum-told c = search needs
 
 returns : tie.Need-returns Inv-loop μ-loop
 returns c =
-    let g = c .before .before .before .before .before .before .args in
-    let a = c .before .before .before .before .loop .inv in
+    let g = c .before .before .before .before .before .before .before .args in
+    let a = c .before .before .before .before .before .loop .inv in
     let t = c .before .before .before .tested in
     no-code (g .kind) (bitsOf (g .s .now)) (g .c .at) (g .words .now) a (t .result) (t .ensures) _ _ (c .before .enum-told .given .1) (c .why .ensures)
 
 returns-2 : tie.Need-returns-2 Inv-loop μ-loop
 returns-2 c =
-    let g = c .before .before .before .before .before .before .before .before .before .before .args in
-    let a = c .before .before .before .before .before .before .before .before .loop .inv in
+    let g = c .before .before .before .before .before .before .before .before .before .before .before .args in
+    let a = c .before .before .before .before .before .before .before .before .before .loop .inv in
     let t = c .before .before .before .before .before .before .before .tested in
     let v = c .before .before .before .before .before .a .given in
     let z = c .before .before .if1 .left in
@@ -35,8 +35,8 @@ returns-2 c =
 
 returns-3 : tie.Need-returns-3 Inv-loop μ-loop
 returns-3 c =
-    let g = c .before .before .before .before .before .before .before .before .before .before .before .before .before .before .args in
-    let a = c .before .before .before .before .before .before .before .before .before .before .before .before .loop .inv in
+    let g = c .before .before .before .before .before .before .before .before .before .before .before .before .before .before .before .args in
+    let a = c .before .before .before .before .before .before .before .before .before .before .before .before .before .loop .inv in
     let t = c .before .before .before .before .before .before .before .before .before .before .before .tested in
     let v = c .before .before .before .before .before .before .before .before .before .a .given in
     let z = c .before .before .before .before .before .before .if1 .left in
@@ -47,8 +47,8 @@ returns-3 c =
 
 returns-4 : tie.Need-returns-4 Inv-loop μ-loop
 returns-4 c =
-    let g = c .before .before .before .before .before .before .before .before .before .before .before .before .before .before .before .before .before .before .before .args in
-    let a = c .before .before .before .before .before .before .before .before .before .before .before .before .before .before .before .before .before .loop .inv in
+    let g = c .before .before .before .before .before .before .before .before .before .before .before .before .before .before .before .before .before .before .before .before .args in
+    let a = c .before .before .before .before .before .before .before .before .before .before .before .before .before .before .before .before .before .before .loop .inv in
     let t = c .before .before .before .before .before .before .before .before .before .before .before .before .before .before .before .before .tested in
     let v = c .before .before .before .before .before .before .before .before .before .before .before .before .before .before .a .given in
     let z = c .before .before .before .before .before .before .before .before .before .before .before .if1 .left in
@@ -63,8 +63,8 @@ returns-4 c =
 
 loop-again : tie.Need-loop-again Inv-loop μ-loop
 loop-again c =
-    let g = c .before .before .before .before .before .before .before .before .before .before .before .before .before .before .before .before .before .before .before .args in
-    let l = c .before .before .before .before .before .before .before .before .before .before .before .before .before .before .before .before .before .loop .inv in
+    let g = c .before .before .before .before .before .before .before .before .before .before .before .before .before .before .before .before .before .before .before .before .args in
+    let l = c .before .before .before .before .before .before .before .before .before .before .before .before .before .before .before .before .before .before .loop .inv in
     let t = c .before .before .before .before .before .before .before .before .before .before .before .before .before .before .before .before .tested in
     let v = c .before .before .before .before .before .before .before .before .before .before .before .before .before .before .a .given in
     let z = c .before .before .before .before .before .before .before .before .before .before .before .if1 .left in
@@ -79,8 +79,8 @@ loop-again c =
 
 returns-5 : tie.Need-returns-5 Inv-loop μ-loop
 returns-5 c =
-    let g = c .before .before .before .before .before .before .before .before .before .args in
-    let l = c .before .before .before .before .before .before .before .loop .inv in
+    let g = c .before .before .before .before .before .before .before .before .before .before .args in
+    let l = c .before .before .before .before .before .before .before .before .loop .inv in
     let t = c .before .before .before .before .before .before .tested in
     let v = c .before .before .before .before .a .given in
     ended (g .kind) (bitsOf (g .s .now)) (g .c .at) (g .words .now) l (t .result) (t .ensures) (v .0 .0) (v .0 .1 .0) (v .1) (c .before .if1 .taken)
@@ -92,11 +92,13 @@ fill-spec =
     Inv-loop
     μ-loop
     loop-holds
+    (λ c. search needs)
     (λ c κs. search needs)
     (λ c. search needs)
     enum-told
     (λ c κs. search needs)
     returns
+    (λ c. search needs)
     (λ c κs. search needs)
     returns-2
     (λ c κs. search needs)

@@ -1,7 +1,6 @@
-use Prim.Native.Nat.{ℕ, _%_}
+use Prim.Native.Nat.{ℕ}
 use mathlib.Core.Path.{_≡_, sym, ap, _∙_}
 use mathlib.Core.Bool.{true}
-use lib.Dec.{eqb}
 use borrow.Author.Tests.{not-true, not-false}
 use Rattle.bits.specs.declared.refusals.Refusal.{Refusal}
 use Rattle.bits.specs.declared.read.Read.{Read}
@@ -12,7 +11,6 @@ use Rattle.syntax.specs.Context.{isWeighted}
 use Rattle.syntax.specs.declared.marks.MarkedNumber.{MarkedNumber}
 use Rattle.fields.specs.declared.step.NumberStep.{NumberStep}
 use Rattle.fields.specs.Steps.{asNumber, whyNumber}
-use Rattle.weights.proofs.Tables.{at-most-if}
 use Rattle.weights.proofs.Stored.{list-taken, list-none, none, there-1, there-2, there-3, there-4, there-all}
 use borrow.Author.Needs.{needs}
 use Rattle.weights.proofs.weight_words.weights_onto.Statement.{statement}
@@ -72,15 +70,14 @@ returns-5 c =
     let t = c .before in
     let j = t .before .before in
     let f = j .before .before in
-    let y = f .before .before .before in
+    let y = f .before .before in
     let i = y .before .before in
     let q = i .before .before .before in
     let b = q .before .before in
     let p = b .before .before in
     let u = p .before .before in
     let d = u .before in
-    let a = d .before .before .before .before .args in
-    let e = rw (f .count-if .ensures, f .before .is-type .ensures, at-most-if (eqb (a .slice-type % 5) 1) (a .n1)) at (j .list-into2 .ensures) in
+    let e = rw (f .is-type .ensures) at (j .list-if .ensures) in
     let l = list-taken (i .list-into .ensures .0) (y .a3 .given .1) in
     let n = list-none (e .0) (t .enum-told4 .given .1) (c .why-list2 .ensures) in
     there-4 _ _ _ _ _ _ _ _ (weighted d) _ (d .has-chroma .ensures) (sym (u .ue .ensures) ∙ ap asRead (p .a1 .given .1)) (sym (b .number-if .ensures) ∙ ap asNumber (q .a2 .given .1)) (i .list-into .ensures .1) l (e .1) n
@@ -90,15 +87,14 @@ unfolding ue
 returns-6 c =
     let j = c .before .before .before in
     let f = j .before .before in
-    let y = f .before .before .before in
+    let y = f .before .before in
     let i = y .before .before in
     let q = i .before .before .before in
     let b = q .before .before in
     let p = b .before .before in
     let u = p .before .before in
     let d = u .before in
-    let a = d .before .before .before .before .args in
-    let e = rw (f .count-if .ensures, f .before .is-type .ensures, at-most-if (eqb (a .slice-type % 5) 1) (a .n1)) at (j .list-into2 .ensures) in
+    let e = rw (f .is-type .ensures) at (j .list-if .ensures) in
     let l = list-taken (i .list-into .ensures .0) (y .a3 .given .1) in
     there-all _ _ _ _ _ _ _ _ (weighted d) _ (d .has-chroma .ensures) (sym (u .ue .ensures) ∙ ap asRead (p .a1 .given .1)) (sym (b .number-if .ensures) ∙ ap asNumber (q .a2 .given .1)) (i .list-into .ensures .1) l (e .1)
     (list-taken (e .0) (c .before .a4 .given .1))
@@ -125,7 +121,6 @@ weights-onto-spec =
     (λ c. search needs)
     (λ c κs. search needs)
     returns-4
-    (λ c κs. search needs)
     (λ c κs. search needs)
     (λ c κs. search needs)
     (λ c. search needs)
