@@ -26,9 +26,8 @@ use Rattle.syntax.proofs.Whole.{active-few}
 use Rattle.weights.specs.Counts.{atMost32}
 use Rattle.weights.proofs.AtMost.{at-most-32}
 use Rattle.header.specs.declared.lead.Led.{Led}
-use Rattle.header.specs.declared.stages.FrontParts.{FrontParts}
 use Rattle.header.specs.Lead.{ledOf}
-use Rattle.header.specs.Stages.{contextOf, frontAt}
+use Rattle.header.specs.Stages.{FrontParts, contextOf, frontAt}
 
 few-same : (n : ℕ) → n ≤ 32 → atMost32 n ≡ n
 unfolding atMost32

@@ -1,8 +1,9 @@
 -- Words beside a refusal: where more bits are tried, each stage goes as far as before, and each list that it reads stands over what was left of it.
 use Prim.Native.Nat.{ℕ, _+_, _≤_}
-use mathlib.Core.Path.{_≡_, refl, sym, ap, _∙_}
+use mathlib.Core.Path.{_≡_, refl, sym, ap, subst, _∙_}
 use mathlib.Core.List.{List, _++_}
 use native.Mathlib.Omega.{arith}
+use lib.IntN.{ℤ}
 use lib.ListN.{length, drop}
 use lib.Seq.{sets}
 use Rattle.bits.specs.Refusals.{Res, got}
@@ -13,6 +14,7 @@ use Rattle.table.specs.declared.table.Table.{Table}
 use Rattle.syntax.specs.declared.context.UnitKind.{UnitKind}
 use Rattle.syntax.specs.declared.context.Context.{Context}
 use Rattle.syntax.specs.declared.marks.MarkedFlag.{MarkedFlag}
+use Rattle.syntax.specs.declared.record.ActiveCounts.{ActiveCounts}
 use Rattle.syntax.specs.declared.record.Operations.{Operations}
 use Rattle.syntax.specs.declared.record.Modifications.{Modifications}
 use Rattle.syntax.specs.declared.record.PredWeightTable.{PredWeightTable}
@@ -32,11 +34,10 @@ use Rattle.weights.specs.Counts.{atMost32}
 use Rattle.weights.specs.WeightsLent.{weightWords}
 use Rattle.weights.proofs.AtMost.{at-most-32}
 use Rattle.header.specs.declared.lead.Led.{Led}
-use Rattle.header.specs.declared.stages.FrontParts.{FrontParts}
 use Rattle.header.specs.declared.stages.MarkingFlags.{MarkingFlags}
-use Rattle.header.specs.Stages.{contextOf, headerOf, frontAt, firstFlagAt, markingFlagsAt, backAt}
+use Rattle.header.specs.Stages.{FrontParts, contextOf, headerOf, frontAt, firstFlagAt, markingFlagsAt, backAt}
 use Rattle.header.specs.Short.{HeaderWords, headerIn}
-use Rattle.header.specs.Told.{Kept, behind}
+use Rattle.header.specs.Told.{Kept, frontOf, EachFront, behind}
 use Rattle.header.proofs.Split.{modificationsOf, markingOf, modifications-split, marking-split}
 use Rattle.header.proofs.Counts.{ledAt}
 use Rattle.header.proofs.Parts.{front-read}
@@ -207,15 +208,21 @@ module _ (n : UnitKind) (l : Led) (f : FrontParts) where
           covered h b w (c0 i t _ _ (T .lists)) (c1 i t _ _ (T .lists)) (d0 (p .1) t _ _ v) (d1 (p .1) t _ _ v) (C (o .1) t _ _ (rw (← z) at (T .marks)))
 
 -- a header that is refused before its lists
-pub kept-front : (reads : Bits → Res SliceHeader) (b : HeaderWords) → Kept reads b b
+pub kept-front : (reads : Bits → Res SliceHeader) (b : HeaderWords) (numbers : List ℕ) (signed : List ℤ)
+    → Kept reads b (record { numbers = numbers; signed = signed; l0 = b .l0; l1 = b .l1; marking = b .marking; w0 = b .w0; w1 = b .w1 })
 unfolding Kept
-kept-front reads b t h e q = refl
+kept-front reads b numbers signed t h e q = refl
 
--- and one whose first fields are read
+-- the front that was read is one of those with its counts
+pub each-front : {a : ActiveCounts} (P : FrontParts → Type 0) (f : FrontParts) → a ≡ f .«active_counts» → EachFront a P → P f
+unfolding EachFront
+each-front P f e k = subst (λ (v : ActiveCounts). P (frontOf (f .frame) (f .«order_count») v)) e (k (f .frame) (f .«order_count»))
+
+-- and one whose first fields are read, and laid down
 pub kept-behind : (x : Table) (n : UnitKind) (s : Bits) {l : Led} {c : ℕ} → ledAt x s 0 ≡ got l c → {f : FrontParts} {d : ℕ} → frontAt (contextOf n l) (l .«slice_type») s c ≡ got f d
-    → (b w : HeaderWords) → (d ≤ length s → Kept (λ t. behind n l f (s ++ t) d) b w) → Kept (λ t. readHeader x n (s ++ t)) b w
+    → (b v w : HeaderWords) → ((h : SliceHeader) → headerIn h v ≡ headerIn h b) → (d ≤ length s → Kept (λ t. behind n l f (s ++ t) d) v w) → Kept (λ t. readHeader x n (s ++ t)) b w
 unfolding Kept
-kept-behind x n s {l} {c} hl hf b w K t h e q =
+kept-behind x n s {l} {c} hl hf b v w y K t h e q =
     let p = led-on x s t 0 (omega arith) hl in
     let o = front-on (contextOf n l) (l .«slice_type») s t c (p .1) hf in
-    K (o .1) t h e (sym (front-read x n (s ++ t) (p .0) (o .0)) ∙ q)
+    K (o .1) t h e (sym (front-read x n (s ++ t) (p .0) (o .0)) ∙ q) ∙ y h

@@ -13,7 +13,7 @@ use Rattle.syntax.specs.Context.{isB}
 use Rattle.syntax.specs.SliceHeader.{modificationKind, modifications, markingKind, decRefPicMarking}
 use Rattle.header.specs.declared.stages.MarkingFlags.{MarkingFlags}
 use Rattle.header.specs.Stages.{firstFlagAt, markingFlagsAt}
-use Rattle.header.specs.Told.{listsOf, marksOf}
+use Rattle.header.specs.Short.{listsOf, marksOf}
 use Rattle.header.specs.declared.slice.Lists.{Lists}
 use Rattle.header.specs.declared.slice.Marks.{Marks}
 use Rattle.header.proofs.Split.{modificationsOf, markingOf, modifications-split, marking-split}

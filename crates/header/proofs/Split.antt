@@ -15,10 +15,8 @@ use Rattle.syntax.specs.Marks.{flagIf}
 use Rattle.syntax.specs.Lists.{operationsIf}
 use Rattle.syntax.specs.Context.{isB}
 use Rattle.syntax.specs.SliceHeader.{Parts, parts, modificationKind, modification, modifications, predWeightTable, markingKind, decRefPicMarking, activeL0, activeL1}
-use Rattle.header.specs.declared.stages.FrontParts.{FrontParts}
 use Rattle.header.specs.declared.stages.MarkingFlags.{MarkingFlags}
-use Rattle.header.specs.declared.stages.BackParts.{BackParts}
-use Rattle.header.specs.Stages.{frontAt, firstFlagAt, markingFlagsAt, backAt}
+use Rattle.header.specs.Stages.{FrontParts, BackParts, frontAt, firstFlagAt, markingFlagsAt, backAt}
 
 abbrev pub modificationsOf : MarkedFlag → Operations → MarkedFlag → Operations → Modifications
 modificationsOf g o h p = record { l0 = record { flag = g; operations = o }; l1 = record { flag = h; operations = p } }

@@ -2,7 +2,7 @@
 use Prim.Native.Nat.{ℕ}
 use native.Mathlib.Omega.{arith}
 use mathlib.Core.Path.{_≡_, refl, sym, ap, subst, _∙_}
-use mathlib.Core.List.{List}
+use mathlib.Core.List.{List, _++_}
 use lib.IntN.{ℤ}
 use lib.Seq.{sets}
 use Rattle.bits.specs.declared.refusals.Refusal.{Refusal}
@@ -11,6 +11,7 @@ use Rattle.bits.specs.Refusals.{Res, got, no}
 use Rattle.bits.specs.Bits.{Bits}
 use Rattle.syntax.specs.declared.context.Context.{Context}
 use Rattle.syntax.specs.SliceHeader.{predWeightTable}
+use Rattle.syntax.specs.declared.record.ActiveCounts.{ActiveCounts}
 use Rattle.syntax.specs.declared.record.PredWeightTable.{PredWeightTable}
 use Rattle.syntax.specs.declared.record.Modifications.{Modifications}
 use Rattle.syntax.specs.declared.record.DecRefPicMarking.{DecRefPicMarking}
@@ -19,8 +20,10 @@ use Rattle.fields.specs.declared.step.End.{End}
 use Rattle.lists.specs.ListsLent.{listWords}
 use Rattle.weights.specs.WeightsLent.{weightsStep, l0Begun, l1Begun, weightWords, weightsShort}
 use Rattle.weights.proofs.Left.{l0-all, l1-all}
-use Rattle.header.specs.Short.{HeaderWords, emptied, headerIn, zeros, headerEnd, headerLeft}
-use Rattle.header.specs.Told.{ListsTold, MarksTold, Filled, listsOf, marksOf}
+use Rattle.header.specs.Short.{listsOf, marksOf, orderSigned, quantiserNumbers, quantiserSigned, filterNumbers, filterSigned, HeaderWords, emptied, headerIn, zeros, headerEnd, headerLeft}
+use Rattle.header.specs.Told.{frontNumbers, FrontTold, BackTold, ListsTold, MarksTold, Filled}
+use Rattle.header.specs.Stages.{FrontParts, BackParts}
+use Rattle.parts.specs.declared.counts.ActiveCountsStep.{ActiveCountsStep}
 use Rattle.weights.specs.declared.weight_words.WeightsStep.{WeightsStep}
 use Rattle.weights.specs.declared.weight_words.WeightsShort.{WeightsShort}
 use Rattle.header.specs.declared.slice.Lists.{Lists}
@@ -33,6 +36,30 @@ pub record Read {A : Type 0} (m : Res A) (e : ℕ) (P : A → Type 0) : Type 0 w
   pub value : A
   pub read : m ≡ got value e
   pub holds : P value
+
+-- ---- the parts without lists
+
+pub front-got : (m : Res FrontParts) {a : ActiveCountsStep} (n : List ℕ) (z : List ℤ) (o : List ℕ) (y : List ℤ) {v : ActiveCounts} {c : Cursor} → FrontTold m a n z o y → a ≡ ActiveCountsStep.Got v c
+    → Read m (c .at) (λ f. (v ≡ f .«active_counts») × ((o ≡ sets n 4 (frontNumbers f)) × (y ≡ sets z 0 (orderSigned (f .«order_count»)))))
+unfolding FrontTold
+front-got (got f e) n z o y {c = c} h g = let h₀ = h .0 in let p : e ≡ c .at = cc in record { value = f; read = cc; holds = (cc, h .1) }
+front-got (no r) n z o y h g = let z : _≡_ {A = ℕ} 0 1 = cc in absurd (omega arith)
+
+pub front-refused : (m : Res FrontParts) {a : ActiveCountsStep} (n : List ℕ) (z : List ℤ) (o : List ℕ) (y : List ℤ) {r : Refusal} → FrontTold m a n z o y → a ≡ ActiveCountsStep.Refused r → m ≡ no r
+unfolding FrontTold
+front-refused (got f e) n z o y h g = let h₀ = h .0 in let z : _≡_ {A = ℕ} 0 1 = cc in absurd (omega arith)
+front-refused (no r) n z o y h g = cc
+
+pub back-got : (m : Res BackParts) {a : End} (n : List ℕ) (z : List ℤ) (o : List ℕ) (y : List ℤ) {c : Cursor} → BackTold m a n z o y → a ≡ End.At c
+    → Read m (c .at) (λ b. (o ≡ sets n 46 (quantiserNumbers (b .quantiser) ++ filterNumbers (b .filter))) × (y ≡ sets z 3 (quantiserSigned (b .quantiser) ++ filterSigned (b .filter))))
+unfolding BackTold
+back-got (got b e) n z o y {c = c} h g = let h₀ = h .0 in let p : e ≡ c .at = cc in record { value = b; read = cc; holds = h .1 }
+back-got (no r) n z o y h g = let z : _≡_ {A = ℕ} 0 1 = cc in absurd (omega arith)
+
+pub back-refused : (m : Res BackParts) {a : End} (n : List ℕ) (z : List ℤ) (o : List ℕ) (y : List ℤ) {r : Refusal} → BackTold m a n z o y → a ≡ End.Refused r → m ≡ no r
+unfolding BackTold
+back-refused (got b e) n z o y h g = let h₀ = h .0 in let z : _≡_ {A = ℕ} 0 1 = cc in absurd (omega arith)
+back-refused (no r) n z o y h g = cc
 
 -- ---- the weights
 
@@ -109,6 +136,12 @@ filled-got b h k = rw h (refl, k)
 
 pub filled-as : (a : End) (b w : HeaderWords) {m n : Res SliceHeader} → m ≡ n → Filled n a b w → Filled m a b w
 filled-as a b w e f = subst (λ (r : Res SliceHeader). Filled r a b w) (sym e) f
+
+-- over words that differ only in what a header writes over
+pub filled-over : (a : End) (b v w : HeaderWords) → ((h : SliceHeader) → headerIn h v ≡ headerIn h b) → (m : Res SliceHeader) → Filled m a v w → Filled m a b w
+unfolding Filled
+filled-over a b v w k (got h e) f = (f .0, f .1 ∙ k h)
+filled-over a b v w k (no r) f = f
 
 -- what the public function says: the words, which were b, were emptied first
 pub left-got : (m : Res SliceHeader) (b v w : HeaderWords) {a : End} {c : Cursor} → v ≡ emptied b → Filled m a v w → a ≡ End.At c → (a ≡ headerEnd m) × (w ≡ headerLeft m b)

@@ -12,40 +12,39 @@ use Rattle.bits.specs.Refusals.{Res, got, no}
 use Rattle.fmt.specs.Arrays.{pad}
 use Rattle.syntax.specs.declared.marks.MarkedFlag.{MarkedFlag}
 use Rattle.syntax.specs.declared.marks.MarkedNumber.{MarkedNumber}
+use Rattle.syntax.specs.declared.record.Frame.{Frame}
 use Rattle.syntax.specs.declared.record.OrderCount.{OrderCount}
+use Rattle.syntax.specs.declared.record.ActiveCounts.{ActiveCounts}
+use Rattle.syntax.specs.declared.record.Modifications.{Modifications}
+use Rattle.syntax.specs.declared.record.DecRefPicMarking.{DecRefPicMarking}
 use Rattle.syntax.specs.declared.record.Quantiser.{Quantiser}
 use Rattle.syntax.specs.declared.record.Filter.{Filter}
 use Rattle.syntax.specs.declared.record.SliceHeader.{SliceHeader}
 use Rattle.fields.specs.declared.step.End.{End}
 use Rattle.lists.specs.ListsLent.{listWords, emptiedList}
+use Rattle.weights.specs.declared.weight_words.WeightsShort.{WeightsShort}
 use Rattle.weights.specs.WeightsLent.{weightWords, weightsShort, emptiedWeights}
-use Rattle.header.specs.declared.slice.HeaderShort.{HeaderShort}
+use Rattle.header.specs.declared.stages.MarkingFlags.{MarkingFlags}
+use Rattle.header.specs.declared.slice.Lists.{Lists}
+use Rattle.header.specs.declared.slice.Marks.{Marks}
 
--- the record without its lists; of each it has the count
-abbrev pub shortOf : SliceHeader → HeaderShort
-shortOf h =
+-- what the code hands on of the parts with lists: of each list the count
+
+abbrev pub listsOf : Modifications → Lists
+listsOf m = record { flag0 = m .l0 .flag; count0 = m .l0 .operations .count; flag1 = m .l1 .flag; count1 = m .l1 .operations .count }
+
+abbrev pub flagsOf : DecRefPicMarking → MarkingFlags
+flagsOf d =
     record {
-      «first_mb_in_slice» = h .«first_mb_in_slice»;
-      «slice_type» = h .«slice_type»;
-      «pic_parameter_set_id» = h .«pic_parameter_set_id»;
-      «seq_parameter_set_id» = h .«seq_parameter_set_id»;
-      frame = h .frame;
-      «order_count» = h .«order_count»;
-      «active_counts» = h .«active_counts»;
-      «ref_pic_list_modification_flag_l0» = h .modifications .l0 .flag;
-      «modifications_l0» = h .modifications .l0 .operations .count;
-      «ref_pic_list_modification_flag_l1» = h .modifications .l1 .flag;
-      «modifications_l1» = h .modifications .l1 .operations .count;
-      weights = weightsShort (h .«pred_weight_table»);
-      «no_output_of_prior_pics_flag» = h .«dec_ref_pic_marking» .«no_output_of_prior_pics_flag»;
-      «long_term_reference_flag» = h .«dec_ref_pic_marking» .«long_term_reference_flag»;
-      «adaptive_ref_pic_marking_mode_flag» = h .«dec_ref_pic_marking» .«adaptive_ref_pic_marking_mode_flag»;
-      markings = h .«dec_ref_pic_marking» .operations .count;
-      quantiser = h .quantiser;
-      filter = h .filter;
+      «no_output_of_prior_pics_flag» = d .«no_output_of_prior_pics_flag»;
+      «long_term_reference_flag» = d .«long_term_reference_flag»;
+      «adaptive_ref_pic_marking_mode_flag» = d .«adaptive_ref_pic_marking_mode_flag»;
     }
 
--- ---- its fields as words, in order: a mark and a value for what may be absent; marks and flags are 0 and 1
+abbrev pub marksOf : DecRefPicMarking → Marks
+marksOf d = record { flags = flagsOf d; count = d .operations .count }
+
+-- ---- the fields as words, in order: a mark and a value for what may be absent; marks and flags are 0 and 1
 
 abbrev pub bit : Bool → ℕ
 bit true = 1
@@ -57,52 +56,63 @@ numberWords m = bit (m .there) ∷ m .value ∷ []
 abbrev pub flagWords : MarkedFlag → List ℕ
 flagWords m = bit (m .there) ∷ bit (m .value) ∷ []
 
--- numbers, flags, and the marks of signed numbers
-unfoldable pub numbersOf : HeaderShort → List ℕ
+-- of each part its numbers, flags, and the marks of signed numbers
+
+abbrev pub frameNumbers : Frame → List ℕ
+frameNumbers f = numberWords (f .«colour_plane_id») ++ (f .«frame_num» ∷ (flagWords (f .«field_pic_flag») ++ (flagWords (f .«bottom_field_flag») ++ numberWords (f .«idr_pic_id»))))
+
+abbrev pub orderNumbers : OrderCount → List ℕ
+orderNumbers o = numberWords (o .«pic_order_cnt_lsb») ++ (bit (o .«delta_pic_order_cnt_bottom» .there) ∷ bit (o .«delta_pic_order_cnt» .there) ∷ numberWords (o .«redundant_pic_cnt»))
+
+abbrev pub countNumbers : ActiveCounts → List ℕ
+countNumbers a =
+    flagWords (a .«direct_spatial_mv_pred_flag»)
+    ++ (flagWords (a .«num_ref_idx_active_override_flag») ++ (numberWords (a .«num_ref_idx_l0_active_minus1») ++ numberWords (a .«num_ref_idx_l1_active_minus1»)))
+
+abbrev pub listNumbers : Lists → List ℕ
+listNumbers l = flagWords (l .flag0) ++ (l .count0 ∷ (flagWords (l .flag1) ++ (l .count1 ∷ [])))
+
+abbrev pub weightNumbers : WeightsShort → List ℕ
+weightNumbers w = bit (w .there) ∷ w .«luma_log2_weight_denom» ∷ (numberWords (w .«chroma_log2_weight_denom») ++ (w .l0 ∷ w .l1 ∷ []))
+
+abbrev pub markNumbers : Marks → List ℕ
+markNumbers m =
+    flagWords (m .flags .«no_output_of_prior_pics_flag»)
+    ++ (flagWords (m .flags .«long_term_reference_flag») ++ (flagWords (m .flags .«adaptive_ref_pic_marking_mode_flag») ++ (m .count ∷ [])))
+
+abbrev pub quantiserNumbers : Quantiser → List ℕ
+quantiserNumbers q = numberWords (q .«cabac_init_idc») ++ (flagWords (q .«sp_for_switch_flag») ++ (bit (q .«slice_qs_delta» .there) ∷ []))
+
+abbrev pub filterNumbers : Filter → List ℕ
+filterNumbers f =
+    numberWords (f .«disable_deblocking_filter_idc»)
+    ++ (bit (f .«slice_alpha_c0_offset_div2» .there) ∷ bit (f .«slice_beta_offset_div2» .there) ∷ numberWords (f .«slice_group_change_cycle»))
+
+unfoldable pub numbersOf : SliceHeader → List ℕ
 numbersOf h =
     (h .«first_mb_in_slice» ∷ h .«slice_type» ∷ h .«pic_parameter_set_id» ∷ h .«seq_parameter_set_id» ∷ [])
-    ++ (numberWords (h .frame .«colour_plane_id»)
-    ++ ((h .frame .«frame_num» ∷ [])
-    ++ (flagWords (h .frame .«field_pic_flag»)
-    ++ (flagWords (h .frame .«bottom_field_flag»)
-    ++ (numberWords (h .frame .«idr_pic_id»)
-    ++ (numberWords (h .«order_count» .«pic_order_cnt_lsb»)
-    ++ ((bit (h .«order_count» .«delta_pic_order_cnt_bottom» .there) ∷ bit (h .«order_count» .«delta_pic_order_cnt» .there) ∷ [])
-    ++ (numberWords (h .«order_count» .«redundant_pic_cnt»)
-    ++ (flagWords (h .«active_counts» .«direct_spatial_mv_pred_flag»)
-    ++ (flagWords (h .«active_counts» .«num_ref_idx_active_override_flag»)
-    ++ (numberWords (h .«active_counts» .«num_ref_idx_l0_active_minus1»)
-    ++ (numberWords (h .«active_counts» .«num_ref_idx_l1_active_minus1»)
-    ++ (flagWords (h .«ref_pic_list_modification_flag_l0»)
-    ++ ((h .«modifications_l0» ∷ [])
-    ++ (flagWords (h .«ref_pic_list_modification_flag_l1»)
-    ++ ((h .«modifications_l1» ∷ bit (h .weights .there) ∷ h .weights .«luma_log2_weight_denom» ∷ [])
-    ++ (numberWords (h .weights .«chroma_log2_weight_denom»)
-    ++ ((h .weights .l0 ∷ h .weights .l1 ∷ [])
-    ++ (flagWords (h .«no_output_of_prior_pics_flag»)
-    ++ (flagWords (h .«long_term_reference_flag»)
-    ++ (flagWords (h .«adaptive_ref_pic_marking_mode_flag»)
-    ++ ((h .markings ∷ [])
-    ++ (numberWords (h .quantiser .«cabac_init_idc»)
-    ++ (flagWords (h .quantiser .«sp_for_switch_flag»)
-    ++ ((bit (h .quantiser .«slice_qs_delta» .there) ∷ [])
-    ++ (numberWords (h .filter .«disable_deblocking_filter_idc»)
-    ++ ((bit (h .filter .«slice_alpha_c0_offset_div2» .there) ∷ bit (h .filter .«slice_beta_offset_div2» .there) ∷ [])
-    ++ numberWords (h .filter .«slice_group_change_cycle»))))))))))))))))))))))))))))
+    ++ (frameNumbers (h .frame)
+    ++ (orderNumbers (h .«order_count»)
+    ++ (countNumbers (h .«active_counts»)
+    ++ (listNumbers (listsOf (h .modifications))
+    ++ (weightNumbers (weightsShort (h .«pred_weight_table»))
+    ++ (markNumbers (marksOf (h .«dec_ref_pic_marking»))
+    ++ (quantiserNumbers (h .quantiser)
+    ++ filterNumbers (h .filter))))))))
 
-abbrev pub signedWords : OrderCount → Quantiser → Filter → List ℤ
-signedWords o q f =
-    o .«delta_pic_order_cnt_bottom» .value
-    ∷ o .«delta_pic_order_cnt» .first
-    ∷ o .«delta_pic_order_cnt» .second
-    ∷ q .«slice_qp_delta»
-    ∷ q .«slice_qs_delta» .value
-    ∷ f .«slice_alpha_c0_offset_div2» .value
-    ∷ f .«slice_beta_offset_div2» .value
-    ∷ []
+-- and its signed numbers
 
-unfoldable pub signedOf : HeaderShort → List ℤ
-signedOf h = signedWords (h .«order_count») (h .quantiser) (h .filter)
+abbrev pub orderSigned : OrderCount → List ℤ
+orderSigned o = o .«delta_pic_order_cnt_bottom» .value ∷ o .«delta_pic_order_cnt» .first ∷ o .«delta_pic_order_cnt» .second ∷ []
+
+abbrev pub quantiserSigned : Quantiser → List ℤ
+quantiserSigned q = q .«slice_qp_delta» ∷ q .«slice_qs_delta» .value ∷ []
+
+abbrev pub filterSigned : Filter → List ℤ
+filterSigned f = f .«slice_alpha_c0_offset_div2» .value ∷ f .«slice_beta_offset_div2» .value ∷ []
+
+unfoldable pub signedOf : SliceHeader → List ℤ
+signedOf h = orderSigned (h .«order_count») ++ (quantiserSigned (h .quantiser) ++ filterSigned (h .filter))
 
 -- ---- what reading says, and what it leaves in the words
 
@@ -148,8 +158,8 @@ emptied w =
 abbrev pub headerIn : SliceHeader → HeaderWords → HeaderWords
 headerIn h b =
     record {
-      numbers = numbersOf (shortOf h);
-      signed = signedOf (shortOf h);
+      numbers = numbersOf h;
+      signed = signedOf h;
       l0 = sets (b .l0) 0 (listWords (h .modifications .l0 .operations));
       l1 = sets (b .l1) 0 (listWords (h .modifications .l1 .operations));
       marking = sets (b .marking) 0 (listWords (h .«dec_ref_pic_marking» .operations));
@@ -197,8 +207,8 @@ Tidy w = emptied w ≡ listless w
 abbrev pub headerAlone : SliceHeader → HeaderWords
 headerAlone h =
     record {
-      numbers = numbersOf (shortOf h);
-      signed = signedOf (shortOf h);
+      numbers = numbersOf h;
+      signed = signedOf h;
       l0 = pad 0 198 (listWords (h .modifications .l0 .operations));
       l1 = pad 0 198 (listWords (h .modifications .l1 .operations));
       marking = pad 0 198 (listWords (h .«dec_ref_pic_marking» .operations));

@@ -9,6 +9,11 @@ use Rattle.bits.specs.declared.refusals.Refusal.{Refusal}
 use Rattle.syntax.specs.declared.context.UnitKind.{UnitKind}
 use Rattle.syntax.specs.declared.context.Context.{Context}
 use Rattle.syntax.specs.declared.marks.MarkedFlag.{MarkedFlag}
+use Rattle.syntax.specs.declared.record.Frame.{Frame}
+use Rattle.syntax.specs.declared.record.OrderCount.{OrderCount}
+use Rattle.syntax.specs.declared.record.ActiveCounts.{ActiveCounts}
+use Rattle.syntax.specs.declared.record.Quantiser.{Quantiser}
+use Rattle.syntax.specs.declared.record.Filter.{Filter}
 use Rattle.syntax.specs.declared.record.Modifications.{Modifications}
 use Rattle.syntax.specs.declared.record.PredWeightTable.{PredWeightTable}
 use Rattle.syntax.specs.declared.record.DecRefPicMarking.{DecRefPicMarking}
@@ -17,12 +22,19 @@ use Rattle.syntax.specs.Marks.{flagIf}
 use Rattle.syntax.specs.Context.{hasL0}
 use Rattle.syntax.specs.SliceHeader.{frame, orderCount, activeCounts, notScalable, quantiser, filter}
 use Rattle.header.specs.declared.lead.Led.{Led}
-use Rattle.header.specs.declared.stages.FrontParts.{FrontParts}
-use Rattle.header.specs.declared.stages.FrontStep.{FrontStep}
 use Rattle.header.specs.declared.stages.MarkingFlags.{MarkingFlags}
 use Rattle.header.specs.declared.stages.MarkingStep.{MarkingStep}
-use Rattle.header.specs.declared.stages.BackParts.{BackParts}
-use Rattle.header.specs.declared.stages.BackStep.{BackStep}
+
+-- colour_plane_id to num_ref_idx_l1_active_minus1
+pub record FrontParts : Type 0 where
+  pub frame : Frame
+  pub «order_count» : OrderCount
+  pub «active_counts» : ActiveCounts
+
+-- cabac_init_idc to slice_group_change_cycle
+pub record BackParts : Type 0 where
+  pub quantiser : Quantiser
+  pub filter : Filter
 
 module _ (x : Context) (k : ℕ) where
   unfoldable pub frontAt : Bits → ℕ → Res FrontParts
@@ -71,14 +83,6 @@ headerOf l f m w d b =
       filter = b .filter;
     }
 
-abbrev pub asFront : FrontStep → Res FrontParts
-asFront (FrontStep.Got f c) = got f (c .at)
-asFront (FrontStep.Refused r) = no r
-
-abbrev pub whyFront : FrontStep → Refusal
-whyFront (FrontStep.Got f c) = none
-whyFront (FrontStep.Refused r) = r
-
 abbrev pub asMarking : MarkingStep → Res MarkingFlags
 asMarking (MarkingStep.Got m c) = got m (c .at)
 asMarking (MarkingStep.Refused r) = no r
@@ -86,11 +90,3 @@ asMarking (MarkingStep.Refused r) = no r
 abbrev pub whyMarking : MarkingStep → Refusal
 whyMarking (MarkingStep.Got m c) = none
 whyMarking (MarkingStep.Refused r) = r
-
-abbrev pub asBack : BackStep → Res BackParts
-asBack (BackStep.Got b c) = got b (c .at)
-asBack (BackStep.Refused r) = no r
-
-abbrev pub whyBack : BackStep → Refusal
-whyBack (BackStep.Got b c) = none
-whyBack (BackStep.Refused r) = r

@@ -5,9 +5,6 @@ use crate::lead::LeadStep;
 use crate::lead::Led;
 use crate::lead::lead;
 use crate::lead::why_lead;
-use crate::stages::BackStep;
-use crate::stages::FrontParts;
-use crate::stages::FrontStep;
 use crate::stages::MarkingFlags;
 use crate::stages::MarkingStep;
 use crate::stages::active;
@@ -15,15 +12,18 @@ use crate::stages::back;
 use crate::stages::first_flag;
 use crate::stages::front;
 use crate::stages::marking_flags;
-use crate::stages::why_back;
-use crate::stages::why_front;
 use crate::stages::why_marking;
 use crate::words::MARKINGS;
 use crate::words::MODIFICATIONS_L0;
 use crate::words::MODIFICATIONS_L1;
 use crate::words::WEIGHTS_L0;
 use crate::words::WEIGHTS_L1;
-use crate::words::lay;
+use crate::words::lay_lead;
+use crate::words::lay_lists;
+use crate::words::lay_marks;
+use crate::words::lay_weights;
+use crate::words::long_numbers;
+use crate::words::long_signed;
 use bits::read::Cursor;
 use bits::refusals::NOTHING_FOLLOWS;
 use bits::refusals::Refusal;
@@ -42,15 +42,12 @@ use lists::list_words::operations_onto;
 use lists::list_words::why_list;
 use lists::marking::marking_kind;
 use lists::modification::modification_kind;
+use parts::counts::ActiveCountsStep;
+use parts::counts::why_active_counts;
 use syntax::context::Context;
 use syntax::context::UnitKind;
 use syntax::marks::MarkedFlag;
 use syntax::record::ActiveCounts;
-use syntax::record::Filter;
-use syntax::record::Frame;
-use syntax::record::OrderCount;
-use syntax::record::Quantiser;
-use weights::weight_words::WeightsShort;
 use weights::weight_words::WeightsStep;
 use weights::weight_words::clear_weights;
 use weights::weight_words::empty_weights;
@@ -69,30 +66,7 @@ ghost use Rattle.lists.specs.Leaves.{Covered};
 ghost use Rattle.lists.specs.ListsLent.{listWords};
 ghost use Rattle.weights.specs.WeightsLent.{weightsStep, l0Begun, l1Begun};
 ghost use Rattle.header.specs.Short.{headerWords, emptied, zeros, headerEnd, headerLeft};
-ghost use Rattle.header.specs.Told.{ListsTold, MarksTold, Filled, Kept, behind, whyLists, whyMarks};
-
-// The header's record without its lists. Of each list it has the count: how many entries of the lent words are used.
-#[repr(C)]
-pub struct HeaderShort {
-    pub first_mb_in_slice: u32,
-    pub slice_type: u32,
-    pub pic_parameter_set_id: u32,
-    pub seq_parameter_set_id: u32,
-    pub frame: Frame,
-    pub order_count: OrderCount,
-    pub active_counts: ActiveCounts,
-    pub ref_pic_list_modification_flag_l0: MarkedFlag,
-    pub modifications_l0: u32,
-    pub ref_pic_list_modification_flag_l1: MarkedFlag,
-    pub modifications_l1: u32,
-    pub weights: WeightsShort,
-    pub no_output_of_prior_pics_flag: MarkedFlag,
-    pub long_term_reference_flag: MarkedFlag,
-    pub adaptive_ref_pic_marking_mode_flag: MarkedFlag,
-    pub markings: u32,
-    pub quantiser: Quantiser,
-    pub filter: Filter,
-}
+ghost use Rattle.header.specs.Told.{ListsTold, MarksTold, FrontIn, EachFront, Filled, Kept, behind, whyLists, whyMarks};
 
 // ref_pic_list_modification( ) without its lists
 pub(crate) struct Lists {
@@ -226,7 +200,7 @@ fn behind(
     c: Cursor,
     kind: UnitKind,
     l: Led,
-    f: FrontParts,
+    a: ActiveCounts,
     numbers: &mut [u32; 57],
     signed: &mut [i32; 7],
     l0: &mut [u32; 198],
@@ -235,8 +209,8 @@ fn behind(
     w0: &mut [i32; 256],
     w1: &mut [i32; 256],
 ) -> End
-    ensures { λ r. ⌜ Filled (behind kind l f (bitsOf (now (s .entry))) (c .at)) r (headerWords numbers signed l0 l1 marking w0 w1 .entry) (headerWords numbers signed l0 l1 marking w0 w1 .exit) ⌝ }
-    ensures { λ r. ⌜ (c .at ≤ length (bitsOf (now (s .entry))) → Kept (λ t. behind kind l f (bitsOf (now (s .entry)) ++ t) (c .at)) (headerWords numbers signed l0 l1 marking w0 w1 .entry) (headerWords numbers signed l0 l1 marking w0 w1 .exit)) ⌝ }
+    ensures { λ r. ⌜ EachFront a (λ f. FrontIn l f (headerWords numbers signed l0 l1 marking w0 w1 .entry) → Filled (behind kind l f (bitsOf (now (s .entry))) (c .at)) r (headerWords numbers signed l0 l1 marking w0 w1 .entry) (headerWords numbers signed l0 l1 marking w0 w1 .exit)) ⌝ }
+    ensures { λ r. ⌜ EachFront a (λ f. c .at ≤ length (bitsOf (now (s .entry))) → Kept (λ t. behind kind l f (bitsOf (now (s .entry)) ++ t) (c .at)) (headerWords numbers signed l0 l1 marking w0 w1 .entry) (headerWords numbers signed l0 l1 marking w0 w1 .exit)) ⌝ }
 {
     let picture = l.picture;
     let sequence = l.sequence;
@@ -246,57 +220,30 @@ fn behind(
         sequence,
         cycle_width: l.cycle_width,
     };
+    long_numbers(numbers);
+    long_signed(signed);
     let a3 = lists_into(s, c, x, l.slice_type, l0, l1);
     let ListsStep::Got(o, c3) = a3 else {
         return End::Refused(why_lists(a3));
     };
-    let active_counts = f.active_counts;
-    let a4 = weights_for_into(s, c3, x, l.slice_type, active_counts, w0, w1);
+    lay_lists(o, numbers);
+    let a4 = weights_for_into(s, c3, x, l.slice_type, a, w0, w1);
     let WeightsStep::Got(weights, c4) = a4 else {
         return End::Refused(why_weights(a4));
     };
+    lay_weights(weights, numbers);
     let a5 = marks_into(s, c4, x, marking);
     let MarksStep::Got(m, c5) = a5 else {
         return End::Refused(why_marks(a5));
     };
-    let a6 = back(s, c5, x, l.slice_type);
-    let BackStep::Got(b, c6) = a6 else {
-        return End::Refused(why_back(a6));
+    lay_marks(m, numbers);
+    let a6 = back(s, c5, x, l.slice_type, numbers, signed);
+    let End::At(c6) = a6 else {
+        return a6;
     };
     if !any_set_after(s, c6.at) {
         return End::Refused(refuse_at(NOTHING_FOLLOWS, 0, c6.at));
     }
-    let frame = f.frame;
-    let order_count = f.order_count;
-    let flag0 = o.flag0;
-    let flag1 = o.flag1;
-    let flags = m.flags;
-    let no_output = flags.no_output_of_prior_pics_flag;
-    let long_term = flags.long_term_reference_flag;
-    let adaptive = flags.adaptive_ref_pic_marking_mode_flag;
-    let quantiser = b.quantiser;
-    let filter = b.filter;
-    let h = HeaderShort {
-        first_mb_in_slice: l.first_mb_in_slice,
-        slice_type: l.slice_type,
-        pic_parameter_set_id: l.pic_parameter_set_id,
-        seq_parameter_set_id: picture.seq_parameter_set_id,
-        frame,
-        order_count,
-        active_counts,
-        ref_pic_list_modification_flag_l0: flag0,
-        modifications_l0: o.count0,
-        ref_pic_list_modification_flag_l1: flag1,
-        modifications_l1: o.count1,
-        weights,
-        no_output_of_prior_pics_flag: no_output,
-        long_term_reference_flag: long_term,
-        adaptive_ref_pic_marking_mode_flag: adaptive,
-        markings: m.count,
-        quantiser,
-        filter,
-    };
-    lay(h, numbers, signed);
     End::At(c6)
 }
 
@@ -328,11 +275,20 @@ pub(crate) fn fill<'a>(
         sequence,
         cycle_width: l.cycle_width,
     };
-    let a2 = front(s, c1, x, l.slice_type);
-    let FrontStep::Got(f, c2) = a2 else {
-        return End::Refused(why_front(a2));
+    long_numbers(numbers);
+    long_signed(signed);
+    lay_lead(
+        l.first_mb_in_slice,
+        l.slice_type,
+        l.pic_parameter_set_id,
+        picture.seq_parameter_set_id,
+        numbers,
+    );
+    let a2 = front(s, c1, x, l.slice_type, numbers, signed);
+    let ActiveCountsStep::Got(a, c2) = a2 else {
+        return End::Refused(why_active_counts(a2));
     };
-    behind(s, c2, kind, l, f, numbers, signed, l0, l1, marking, w0, w1)
+    behind(s, c2, kind, l, a, numbers, signed, l0, l1, marking, w0, w1)
 }
 
 // All words of a header.

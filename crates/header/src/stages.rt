@@ -1,4 +1,9 @@
-// The parts after pic_parameter_set_id, in stages, but for those with lists. None of them hands on an array.
+// The parts after pic_parameter_set_id, in stages, but for those with lists. Each is laid down behind its reading.
+use crate::words::lay_counts;
+use crate::words::lay_filter;
+use crate::words::lay_frame;
+use crate::words::lay_order;
+use crate::words::lay_quantiser;
 use bits::read::Cursor;
 use bits::refusals::Refusal;
 use bits::refusals::no_refusal;
@@ -28,11 +33,6 @@ use parts::quantiser::why_quantiser;
 use syntax::context::Context;
 use syntax::marks::MarkedFlag;
 use syntax::marks::MarkedNumber;
-use syntax::record::ActiveCounts;
-use syntax::record::Filter;
-use syntax::record::Frame;
-use syntax::record::OrderCount;
-use syntax::record::Quantiser;
 ghost use mathlib.Core.Path.{_≡_};
 ghost use Prim.Native.Nat.{_+_};
 ghost use Rattle.bits.specs.Bits.{bitsOf};
@@ -40,20 +40,8 @@ ghost use Rattle.bits.specs.Refusals.{pick};
 ghost use Rattle.fields.specs.Steps.{asFlag};
 ghost use Rattle.syntax.specs.SliceHeader.{activeOf};
 ghost use Rattle.weights.specs.Counts.{atMost32};
-ghost use Rattle.header.specs.Stages.{asFront, whyFront, asBack, whyBack, asMarking, whyMarking, frontAt, firstFlagAt, markingFlagsAt, backAt};
-
-// colour_plane_id to num_ref_idx_l1_active_minus1
-pub struct FrontParts {
-    pub frame: Frame,
-    pub order_count: OrderCount,
-    pub active_counts: ActiveCounts,
-}
-
-// The refusal first, as in `LeadStep`.
-pub enum FrontStep {
-    Refused(Refusal),
-    Got(FrontParts, Cursor),
-}
+ghost use Rattle.header.specs.Stages.{asMarking, whyMarking, frontAt, firstFlagAt, markingFlagsAt, backAt};
+ghost use Rattle.header.specs.Told.{FrontTold, BackTold};
 
 // The flags of dec_ref_pic_marking( )
 pub struct MarkingFlags {
@@ -62,32 +50,13 @@ pub struct MarkingFlags {
     pub adaptive_ref_pic_marking_mode_flag: MarkedFlag,
 }
 
+// The refusal first, as in `LeadStep`.
 pub enum MarkingStep {
     Refused(Refusal),
     Got(MarkingFlags, Cursor),
 }
 
-// cabac_init_idc to slice_group_change_cycle
-pub struct BackParts {
-    pub quantiser: Quantiser,
-    pub filter: Filter,
-}
-
-pub enum BackStep {
-    Refused(Refusal),
-    Got(BackParts, Cursor),
-}
-
 // The refusal of an answer that is one, for a `let .. else`, which cannot bind it.
-pub fn why_front(a: FrontStep) -> Refusal
-    ensures { λ r. ⌜ r ≡ whyFront a ⌝ }
-{
-    match a {
-        FrontStep::Got(_, _) => no_refusal(),
-        FrontStep::Refused(r) => r,
-    }
-}
-
 pub fn why_marking(a: MarkingStep) -> Refusal
     ensures { λ r. ⌜ r ≡ whyMarking a ⌝ }
 {
@@ -97,38 +66,33 @@ pub fn why_marking(a: MarkingStep) -> Refusal
     }
 }
 
-pub fn why_back(a: BackStep) -> Refusal
-    ensures { λ r. ⌜ r ≡ whyBack a ⌝ }
-{
-    match a {
-        BackStep::Got(_, _) => no_refusal(),
-        BackStep::Refused(r) => r,
-    }
-}
-
-pub fn front(s: &[u8], c: Cursor, x: Context, slice_type: u32) -> FrontStep
-    ensures { λ r. ⌜ asFront r ≡ frontAt x «slice_type» (bitsOf (now (s .entry))) (c .at) ⌝ }
+// colour_plane_id to num_ref_idx_l1_active_minus1. Only the counts are needed later.
+pub(crate) fn front(
+    s: &[u8],
+    c: Cursor,
+    x: Context,
+    slice_type: u32,
+    numbers: &mut [u32; 57],
+    signed: &mut [i32; 7],
+) -> ActiveCountsStep
+    ensures { λ r. ⌜ FrontTold (frontAt x «slice_type» (bitsOf (now (s .entry))) (c .at)) r (now (numbers .entry)) (now (signed .entry)) (now (numbers .exit)) (now (signed .exit)) ⌝ }
 {
     let a1 = frame(s, c, x);
     let FrameStep::Got(frame, c1) = a1 else {
-        return FrontStep::Refused(why_frame(a1));
+        return ActiveCountsStep::Refused(why_frame(a1));
     };
+    lay_frame(frame, numbers);
     let a2 = order_count(s, c1, x, frame.field_pic_flag.value);
     let OrderCountStep::Got(order_count, c2) = a2 else {
-        return FrontStep::Refused(why_order_count(a2));
+        return ActiveCountsStep::Refused(why_order_count(a2));
     };
+    lay_order(order_count, numbers, signed);
     let a3 = active_counts(s, c2, slice_type);
     let ActiveCountsStep::Got(active_counts, c3) = a3 else {
-        return FrontStep::Refused(why_active_counts(a3));
+        return ActiveCountsStep::Refused(why_active_counts(a3));
     };
-    FrontStep::Got(
-        FrontParts {
-            frame,
-            order_count,
-            active_counts,
-        },
-        c3,
-    )
+    lay_counts(active_counts, numbers);
+    ActiveCountsStep::Got(active_counts, c3)
 }
 
 fn own_or(m: MarkedNumber, default: u32) -> u32
@@ -188,16 +152,26 @@ pub fn marking_flags(s: &[u8], c: Cursor, x: Context) -> MarkingStep
     )
 }
 
-pub fn back(s: &[u8], c: Cursor, x: Context, slice_type: u32) -> BackStep
-    ensures { λ r. ⌜ asBack r ≡ backAt x «slice_type» (bitsOf (now (s .entry))) (c .at) ⌝ }
+// cabac_init_idc to slice_group_change_cycle
+pub(crate) fn back(
+    s: &[u8],
+    c: Cursor,
+    x: Context,
+    slice_type: u32,
+    numbers: &mut [u32; 57],
+    signed: &mut [i32; 7],
+) -> End
+    ensures { λ r. ⌜ BackTold (backAt x «slice_type» (bitsOf (now (s .entry))) (c .at)) r (now (numbers .entry)) (now (signed .entry)) (now (numbers .exit)) (now (signed .exit)) ⌝ }
 {
     let a1 = quantiser(s, c, x, slice_type);
     let QuantiserStep::Got(quantiser, c1) = a1 else {
-        return BackStep::Refused(why_quantiser(a1));
+        return End::Refused(why_quantiser(a1));
     };
+    lay_quantiser(quantiser, numbers, signed);
     let a2 = filter(s, c1, x);
     let FilterStep::Got(filter, c2) = a2 else {
-        return BackStep::Refused(why_filter(a2));
+        return End::Refused(why_filter(a2));
     };
-    BackStep::Got(BackParts { quantiser, filter }, c2)
+    lay_filter(filter, numbers, signed);
+    End::At(c2)
 }

@@ -30,7 +30,7 @@ use Rattle.syntax.specs.Prefix.{prefix}
 use Rattle.syntax.specs.declared.record.Prefix.{Prefix}
 use Rattle.lists.specs.ListsLent.{listWords, atMost66, prefixShort}
 use Rattle.weights.specs.WeightsLent.{weightWords}
-use Rattle.header.specs.Short.{bit, numberWords, flagWords, shortOf, numbersOf, signedOf, HeaderWords, emptied, headerIn, zeros}
+use Rattle.header.specs.Short.{bit, numberWords, flagWords, numbersOf, signedOf, HeaderWords, emptied, headerIn, zeros}
 use Rattle.header.proofs.Tidy.{InOrder, good-in-order, operationsIf-ok}
 use Rattle.record.specs.Fields.{numberIn, setIn, markedNumber, markedFlag, frameFrom, orderCountFrom, activeCountsFrom, quantiserFrom, filterFrom}
 use Rattle.record.specs.Entries.{operationsIn, operationsFrom, weightsIn, weightsFrom}
@@ -45,13 +45,13 @@ set-bit false = refl
 
 module _ (h : SliceHeader) where
   abbrev n : List ℕ
-  n = numbersOf (shortOf h)
+  n = numbersOf h
 
   frame-in : frameFrom n ≡ h .frame
   unfolding frameFrom numbersOf
   frame-in = simp set-bit
 
-  order-count-in : orderCountFrom n (signedOf (shortOf h)) ≡ h .«order_count»
+  order-count-in : orderCountFrom n (signedOf h) ≡ h .«order_count»
   unfolding orderCountFrom numbersOf signedOf
   order-count-in = simp set-bit
 
@@ -59,11 +59,11 @@ module _ (h : SliceHeader) where
   unfolding activeCountsFrom numbersOf
   active-counts-in = simp set-bit
 
-  quantiser-in : quantiserFrom n (signedOf (shortOf h)) ≡ h .quantiser
+  quantiser-in : quantiserFrom n (signedOf h) ≡ h .quantiser
   unfolding quantiserFrom numbersOf signedOf
   quantiser-in = simp set-bit
 
-  filter-in : filterFrom n (signedOf (shortOf h)) ≡ h .filter
+  filter-in : filterFrom n (signedOf h) ≡ h .filter
   unfolding filterFrom numbersOf signedOf
   filter-in = simp set-bit
 
@@ -135,7 +135,7 @@ bit-small true = refl
 bit-small false = refl
 
 module _ (h : SliceHeader) (b : HeaderWords) (p : InOrder h) (z : Sized b) where
-  numbers-plain : plainNumbers (numbersOf (shortOf h)) ≡ true
+  numbers-plain : plainNumbers (numbersOf h) ≡ true
   unfolding plainNumbers numbersOf
   numbers-plain =
       simp (
@@ -229,7 +229,7 @@ module _ (w : HeaderWords) where
       }
 
   module _ (p : Plain w) (z : Sized w) where
-    numbers-back : numbersOf (shortOf (headerFrom w)) ≡ m
+    numbers-back : numbersOf (headerFrom w) ≡ m
     unfolding numbersOf headerFrom frameFrom orderCountFrom activeCountsFrom quantiserFrom filterFrom
     numbers-back =
         rw (
@@ -241,7 +241,7 @@ module _ (w : HeaderWords) where
         )
         (cells-are (said flags m) 0 m (said-same flags m (p .flags-are)) 57 0 (sym (z .numbers)))
 
-    signed-back : signedOf (shortOf (headerFrom w)) ≡ w .signed
+    signed-back : signedOf (headerFrom w) ≡ w .signed
     unfolding signedOf headerFrom orderCountFrom quantiserFrom filterFrom
     signed-back = cells-are (λ (k : ℕ). getD (w .signed) k (pos 0)) (pos 0) (w .signed) (λ k. refl) 7 0 (sym (z .signed))
 

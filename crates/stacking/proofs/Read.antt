@@ -5,7 +5,7 @@ use Prim.Native.Nat.{ℕ}
 use lib.Dec.{eqb}
 use Rattle.table.specs.declared.table.Table.{Table}
 use Rattle.syntax.specs.declared.record.SliceHeader.{SliceHeader}
-use Rattle.header.specs.Short.{bit, shortOf, numbersOf, signedOf}
+use Rattle.header.specs.Short.{bit, numbersOf, signedOf}
 use Rattle.record.specs.Fields.{frameFrom, orderCountFrom, quantiserFrom}
 use Rattle.record.specs.Record.{headerFrom}
 use Rattle.unit.specs.declared.answer.UnitAnswer.{UnitAnswer}
@@ -20,7 +20,7 @@ flag-back false = refl
 
 module _ (t : Table) (place type ref : ℕ) where
   -- of a header, what is looked at stands in the words
-  pub header-item-back : (h : SliceHeader) → headerItem t place type ref (heldIn (numbersOf (shortOf h)) (signedOf (shortOf h))) ≡ headerItem t place type ref h
+  pub header-item-back : (h : SliceHeader) → headerItem t place type ref (heldIn (numbersOf h) (signedOf h)) ≡ headerItem t place type ref h
   unfolding headerItem sliceOf headerFrom frameFrom orderCountFrom quantiserFrom numbersOf signedOf
   header-item-back h = rw (flag-back (h .frame .«field_pic_flag» .value), flag-back (h .frame .«bottom_field_flag» .value), flag-back (h .«order_count» .«redundant_pic_cnt» .there))
 
