@@ -2,34 +2,25 @@
 use Prim.Native.Nat.{ℕ, _≤_}
 use mathlib.Core.Path.{_≡_, refl}
 use mathlib.Core.List.{List}
-use mathlib.Core.Bool.{true}
 use native.Mathlib.Omega.{arith}
-use borrow.Author.Tests.{eq-eqb}
-use lib.Dec.{eqb}
 use lib.ListN.{length, replicate, length-replicate}
 use Rattle.bits.specs.declared.refusals.Refusal.{Refusal}
 use Rattle.table.specs.declared.table.Table.{Table}
 use Rattle.unit.specs.declared.answer.UnitAnswer.{UnitAnswer}
 use Rattle.unit.specs.declared.head.HeadRead.{HeadRead}
 use Rattle.unit.specs.declared.head.UnitHead.{UnitHead}
-use Rattle.unit.specs.Head.{headOf, equal}
+use Rattle.unit.specs.Head.{headOf}
 use Rattle.unit.specs.Unit.{untouched, unitRead}
-use Rattle.unit.proofs.Pair.{head-refused}
+use Rattle.unit.proofs.Pair.{own-head, head-refused}
 use Rattle.unit.proofs.Rooms.{unit-roomy}
 use Rattle.front.specs.Front.{unitFront, bodyFront}
 use Rattle.front.proofs.Cases.{front-own}
-
--- a head is its own
-own-head : (h : UnitHead) → equal h h ≡ true
-own-head h =
-    let same : (n : ℕ) → eqb n n ≡ true = λ n. eq-eqb n n refl in
-    rw (same (h .«nal_unit_type»), same (h .«nal_ref_idc»), same (h .b1), same (h .b2), same (h .b3))
 
 module _ (t : Table) (unit scratch : List ℕ) where
   -- ---- the head, and then the rest
 
   pub front-given : {h : UnitHead} → headOf unit ≡ HeadRead.Got h → bodyFront t h unit scratch ≡ unitFront t unit scratch
-  front-given {h} q = front-own t unit scratch h (rw q (own-head h))
+  front-given {h} q = front-own t unit scratch h (own-head unit q)
 
   pub front-refused : {r : Refusal} → headOf unit ≡ HeadRead.Refused r → unitFront t unit scratch ≡ untouched (UnitAnswer.Refused r) scratch
   unfolding unitFront

@@ -12,7 +12,7 @@ use parameter_sets::sequence::SequenceSetStep;
 use syntax::context::PrefixKind;
 use syntax::context::UnitKind;
 use unit::begin::Begun;
-use unit::begin::begin;
+use unit::begin::begun_by;
 use unit::head::UnitHead;
 use unit::head::is_head_of;
 use unit::into::ShortAnswer;
@@ -164,7 +164,7 @@ pub fn read_front_into<'a>(
         clear_words(numbers, signed, l0, l1, marking, w0, w1, base);
         return ShortAnswer::Refused(refuse(NOT_ITS_HEAD, 0));
     }
-    match begin(unit) {
+    match begun_by(head) {
         Begun::Slice(kind, from) => slice_into(
             sequences,
             pictures,

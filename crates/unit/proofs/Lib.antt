@@ -6,4 +6,5 @@ pub mod Held
 pub mod Tidy
 pub mod Whole
 pub mod Pair
+pub mod Begun
 pub mod Known

@@ -1,5 +1,5 @@
 -- What a unit's first bytes say of its body, with the rules' refusals before the body: 27, 1, 2, units of other types, 4.
-use Prim.Native.Nat.{ℕ}
+use Prim.Native.Nat.{ℕ, _+_, _*_, _%_}
 use mathlib.Core.List.{List}
 use mathlib.Core.Bool.{Bool, false, not, _||_}
 use lib.Dec.{leb, eqb}
@@ -12,10 +12,11 @@ use Rattle.nal.specs.declared.extension.NalHeaderExtension.{NalHeaderExtension}
 use Rattle.nal.specs.declared.extension.ExtensionRead.{ExtensionRead}
 use Rattle.nal.specs.Header.{nalRefIdc, nalUnitType, headerOf}
 use Rattle.nal.specs.UnitType.{idOf}
-use Rattle.nal.specs.Extension.{extensionOf, idrFlag, useRefBasePicFlag}
+use Rattle.nal.specs.Extension.{extensionFrom, extensionOf, idrFlag, useRefBasePicFlag}
 use Rattle.syntax.specs.declared.context.PrefixKind.{PrefixKind}
 use Rattle.header.specs.Kinds.{kindOf}
 use Rattle.unit.specs.declared.begin.Begun.{Begun}
+use Rattle.unit.specs.declared.head.UnitHead.{UnitHead}
 
 -- what stands for the extension of a unit that has none; types 1 and 5 make no use of it
 abbrev pub absentExtension : NalHeaderExtension
@@ -50,10 +51,12 @@ abbrev pub withoutExtension : ℕ → Begun
 withoutExtension t = pick (eqb t 7) Begun.SequenceSet (pick (eqb t 8) Begun.PictureSet (Begun.Other t))
 
 -- by nal_unit_type: slices without an extension, units with one, and others
+abbrev pub byType : NalHeader → Begun → Begun
+byType h with-one =
+    pick (isPlain (typeIn h)) (Begun.Slice (kindOf h absentExtension) 1) (pick (hasExtension (typeIn h)) with-one (withoutExtension (typeIn h)))
+
 unfoldable pub typed : List ℕ → NalHeader → Begun
-typed unit h =
-    pick (isPlain (typeIn h)) (Begun.Slice (kindOf h absentExtension) 1)
-    (pick (hasExtension (typeIn h)) (withExtension h (extensionOf unit)) (withoutExtension (typeIn h)))
+typed unit h = byType h (withExtension h (extensionOf unit))
 
 -- 1 or 2, passed on, or the first byte
 abbrev pub withHeader : List ℕ → NalHeaderRead → Begun
@@ -63,3 +66,12 @@ withHeader unit (NalHeaderRead.Refused r) = Begun.Refused r
 -- 27 first
 unfoldable pub begun : List ℕ → Begun
 begun unit = pick (leb (length unit) limit) (withHeader unit (headerOf unit)) (Begun.Refused (refusal tooLarge (pos 0)))
+
+-- ---- the same from a unit's head (`begun-given` in proofs/Begun.antt)
+
+-- the first byte
+abbrev pub firstOf : UnitHead → NalHeader
+firstOf h = record { 0 = h .«nal_ref_idc» % 4 * 32 + h .«nal_unit_type» % 32 }
+
+unfoldable pub begunBy : UnitHead → Begun
+begunBy h = byType (firstOf h) (extended (firstOf h) (extensionFrom (h .b1) (h .b2) (h .b3)))

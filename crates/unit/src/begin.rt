@@ -1,21 +1,15 @@
-// What a unit's first bytes say of its body: the checks that come before scratch is used.
-use bits::refusals::LIMIT;
+// What a unit's head says of its body.
+use crate::head::UnitHead;
 use bits::refusals::Refusal;
-use bits::refusals::TOO_LARGE;
-use bits::refusals::refuse;
 use fields::conditions::either;
 use header::kinds::kind_of;
-use nal::extension::ExtensionRead;
 use nal::extension::NalHeaderExtension;
 use nal::extension::NalHeaderMvcExtension;
-use nal::extension::extension_of;
 use nal::header::NalHeader;
-use nal::header::NalHeaderRead;
-use nal::header::header_of;
 use syntax::context::PrefixKind;
 use syntax::context::UnitKind;
 ghost use mathlib.Core.Path.{_≡_};
-ghost use Rattle.unit.specs.Begin.{absentExtension, hasExtension, prefixKind, withoutExtension, extended, typed, begun};
+ghost use Rattle.unit.specs.Begin.{absentExtension, hasExtension, prefixKind, withoutExtension, extended, begunBy};
 
 pub enum Begun {
     // a slice, and the place where its body starts
@@ -89,32 +83,20 @@ fn without_extension(t: u8) -> Begun
     Begun::Other(t)
 }
 
-// A unit by its type.
-fn typed(unit: &[u8], h: NalHeader) -> Begun
-    ensures { λ r. ⌜ r ≡ typed (now (unit .entry)) h ⌝ }
+// By the type, the head's first byte and its extension: what the first bytes of every unit say that has this head.
+pub fn begun_by(head: UnitHead) -> Begun
+    ensures { λ r. ⌜ r ≡ begunBy head ⌝ }
 {
-    let t = h.type_id();
+    let first = NalHeader(head.nal_ref_idc % 4 * 32 + head.nal_unit_type % 32);
+    let t = first.type_id();
     if either(t == 1, t == 5) {
-        return Begun::Slice(kind_of(h, absent_extension()), 1);
+        return Begun::Slice(kind_of(first, absent_extension()), 1);
     }
     if !has_extension(t) {
         return without_extension(t);
     }
-    match extension_of(unit) {
-        ExtensionRead::Got(e) => extended(h, e),
-        ExtensionRead::Refused(r) => Begun::Refused(r),
-    }
-}
-
-// The size, the first byte and the extension, in this order.
-pub fn begin(unit: &[u8]) -> Begun
-    ensures { λ r. ⌜ r ≡ begun (now (unit .entry)) ⌝ }
-{
-    if LIMIT < unit.len() {
-        return Begun::Refused(refuse(TOO_LARGE, 0));
-    }
-    match header_of(unit) {
-        NalHeaderRead::Got(h) => typed(unit, h),
-        NalHeaderRead::Refused(r) => Begun::Refused(r),
-    }
+    extended(
+        first,
+        NalHeaderExtension::from_bytes(head.b1, head.b2, head.b3),
+    )
 }

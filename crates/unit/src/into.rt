@@ -1,6 +1,6 @@
 // A unit's body read into words that the caller lends: the answer holds neither fields nor lists of a header, so no record is copied on its way to the caller.
 use crate::begin::Begun;
-use crate::begin::begin;
+use crate::begin::begun_by;
 use crate::head::UnitHead;
 use crate::head::is_head_of;
 use bits::read::Cursor;
@@ -32,6 +32,7 @@ ghost use Rattle.bits.specs.Refusals.{limit};
 ghost use Rattle.header.specs.Lead.{tableOf};
 ghost use Rattle.unit.specs.Unit.{sliceBits, prefixBits, sequenceBits, pictureBits};
 ghost use Rattle.unit.specs.Known.{inKnown, unitKnown, bodyKnown};
+ghost use Rattle.unit.specs.Begin.{begun, begunBy};
 ghost use Rattle.unit.specs.Head.{bodyRead};
 ghost use Rattle.header.specs.Short.{HeaderWords, headerWords};
 ghost use Rattle.unit.specs.Into.{Lent, lentWords, blank, sliceShort, bodyShort, sequenceShort, pictureShort, Taken, ReadInto};
@@ -160,8 +161,9 @@ fn picture_into(unit: &[u8], known: usize, scratch: &mut [u8]) -> ShortAnswer
     }
 }
 
-// A unit; of the words beside a refusal nothing is said.
+// A unit whose head has been compared; of the words beside a refusal nothing is said.
 fn take<'a>(
+    head: UnitHead,
     sequences: &'a [u32; 224],
     pictures: &'a [u32; 2304],
     unit: &[u8],
@@ -176,9 +178,10 @@ fn take<'a>(
     w1: &mut [i32; 256],
     base: &mut [u32; 198],
 ) -> ShortAnswer
+    requires { ⌜ begun (now unit) ≡ begunBy head ⌝ }
     ensures { λ r. ⌜ Taken (unitKnown known (tableOf (now (sequences .entry)) (now (pictures .entry))) (now (unit .entry)) (now (scratch .entry))) r (now (scratch .exit)) (lentWords numbers signed l0 l1 marking w0 w1 base .entry) (lentWords numbers signed l0 l1 marking w0 w1 base .exit) ⌝ }
 {
-    match begin(unit) {
+    match begun_by(head) {
         Begun::Slice(kind, from) => slice_into(
             sequences,
             pictures,
@@ -220,8 +223,9 @@ pub fn clear_words(
     clear_list(base);
 }
 
-// A unit whose head has been compared.
+// A unit whose head has been compared, with zeros in all words beside a refusal.
 fn read_into<'a>(
+    head: UnitHead,
     sequences: &'a [u32; 224],
     pictures: &'a [u32; 2304],
     unit: &[u8],
@@ -236,9 +240,11 @@ fn read_into<'a>(
     w1: &mut [i32; 256],
     base: &mut [u32; 198],
 ) -> ShortAnswer
+    requires { ⌜ begun (now unit) ≡ begunBy head ⌝ }
     ensures { λ r. ⌜ ReadInto (unitKnown known (tableOf (now (sequences .entry)) (now (pictures .entry))) (now (unit .entry)) (now (scratch .entry))) r (now (scratch .exit)) (lentWords numbers signed l0 l1 marking w0 w1 base .entry) (lentWords numbers signed l0 l1 marking w0 w1 base .exit) ⌝ }
 {
     match take(
+        head,
         sequences,
         pictures,
         unit,
@@ -292,6 +298,7 @@ pub fn read_known_into<'a>(
         return ShortAnswer::Refused(refuse(NOT_ITS_HEAD, 0));
     }
     read_into(
+        head,
         sequences,
         pictures,
         unit,

@@ -4,6 +4,9 @@ use borrow.Author.Needs.{needs}
 use Rattle.unit.proofs.into.read_into.Statement.{statement}
 use Rattle.unit.proofs.into.read_into.Tie as tie
 
+take-requires : tie.Need-take-requires
+take-requires c κs = c .before .before .before .before .before .before .before .before .before .before .before .pre
+
 returns : tie.Need-returns
 returns c = kept (c .before .before .before .before .before .take .ensures) (ShortAnswer.Slice _) (c .before .n .given .1) (λ h. h)
 
@@ -26,7 +29,7 @@ pub read-into-spec : {M : Type 1} → statement M
 read-into-spec =
     tie.close
     (tie.spec
-    (λ c κs. search needs)
+    take-requires
     (λ c. search needs)
     (λ c. search needs)
     (λ c. search needs)

@@ -1,6 +1,7 @@
 use mathlib.Core.Path.{sym, _∙_}
 use borrow.Author.Tests.{not-true, not-false}
 use Rattle.header.specs.Lead.{tableOf}
+use Rattle.unit.proofs.Begun.{begun-own}
 use Rattle.unit.proofs.Held.{refused-into}
 use Rattle.unit.proofs.Known.{known-own, known-other}
 use borrow.Author.Needs.{needs}
@@ -12,6 +13,9 @@ returns c =
     let a = c .before .before .before .before .before .before .before .before .before .before .before .before .before .before .args in
     let e = sym (c .before .before .before .before .before .before .before .before .before .before .before .is-head-of .ensures) ∙ not-true _ (c .before .before .before .before .before .before .before .before .before .before .if1 .taken) in
     rw (c .refuse .ensures) (refused-into (known-other (a .known) (tableOf (a .sequences .now) (a .pictures .now)) (a .unit .now) (a .scratch .now) (a .head) e) _ (c .before .clear-words .ensures))
+
+read-into-requires : tie.Need-read-into-requires
+read-into-requires c κs = begun-own _ _ (sym (c .before .before .before .before .before .before .before .before .before .before .is-head-of .ensures) ∙ not-false _ (c .before .before .before .before .before .before .before .before .before .if1 .left))
 
 returns-2 : tie.Need-returns-2
 returns-2 c =
@@ -27,6 +31,6 @@ read-known-into-spec =
     (λ c κs. search needs)
     (λ c κs. search needs)
     returns
-    (λ c κs. search needs)
+    read-into-requires
     (λ c. search needs)
     returns-2)
