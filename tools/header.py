@@ -123,17 +123,6 @@ class Records:
         lines = "".join(f'_Static_assert(sizeof(tuz_{n}) == {self.size(n)[0]}, "tuz_{n}");\n' for n in names)
         return f"\n#ifndef __cplusplus\n{lines}#endif\n"
 
-    def places(self, name, prefix, numbers, signed):
-        """The words of a record's fields: numbers and flags in one array, signed numbers in the other, in the order in which they are declared."""
-        for field, kind in self.fields[name]:
-            path = {"value": prefix, "there": f"{prefix}_there", "first": f"{prefix}_first", "second": f"{prefix}_second", "l0": f"{prefix}_l0", "l1": f"{prefix}_l1"}.get(field, field)
-            if kind in ("u32", "bool"):
-                numbers.append(path)
-            elif kind == "i32":
-                signed.append(path)
-            else:
-                self.places(kind, path, numbers, signed)
-
 
 def argument(records, name, kind):
     name = "signed_numbers" if name == "signed" else name  # a word of C
@@ -173,11 +162,32 @@ def functions(records):
     return found, text
 
 
-def places(records):
-    numbers, signed = [], []
-    records.places("HeaderShort", "", numbers, signed)
+# What the functions that lay down a header's parts call their fields, where it is not what H.264 or the record calls them.
+NAMES = {"l.flag0": "ref_pic_list_modification_flag_l0", "l.flag1": "ref_pic_list_modification_flag_l1", "l.count0": "modifications_l0", "l.count1": "modifications_l1", "m.count": "markings"}
+MARKS = ("there", "first", "second", "l0", "l1")
+
+
+def laid(text):
+    """The name of each word of a header's fields, by the lines that lay them down: numbers and flags in one array, signed numbers in the other."""
+    consts = dict(re.findall(r"const (\w+): usize = (\d+);", text))
+    words = {"numbers": {}, "signed": {}}
+    for part in re.split(r"\nfn |\npub\(crate\) fn ", text)[1:]:
+        given = dict(re.findall(r"let (\w+) = ([\w.]+);", part))
+        for array, place, field in re.findall(r" {4}(numbers|signed)\[(\w+)\] = ([\w.]+)(?: as u32)?;", part):
+            path = given.get(field, field)
+            for own, name in NAMES.items():
+                path = re.sub(rf"^{re.escape(own)}\b", name, path)
+            *before, last = re.sub(r"^w\.(?=there|l0|l1)", "weights.", path).split(".")
+            name = before[-1] if last == "value" else f"{before[-1]}_{last}" if last in MARKS else last
+            words[array][int(consts.get(place, place))] = name
+    for array in words.values():
+        assert sorted(array) == list(range(len(array))), array
+    return {name: [array[k] for k in sorted(array)] for name, array in words.items()}
+
+
+def places():
     text = "\n/* Where a slice header's fields stand in the lent words: a mark (THERE) and a value for what may be absent, flags as 0 and 1, of each list the count. */\n"
-    for name, words in ("numbers", numbers), ("signed", signed):
+    for name, words in laid((ROOT / "crates/header/src/words.rt").read_text()).items():
         entries = "".join(f"  TUZ_{w.upper()} = {i},\n" for i, w in enumerate(words))
         text += f"enum tuz_{name} {{\n{entries}  TUZ_{name.upper()} = {len(words)}\n}};\n"
     return text
@@ -188,7 +198,7 @@ def header():
     layout = re.search(r"const LAYOUT: u32 = (\d+);", (ROOT / "crates/exports/src/layout.rt").read_text())[1]
     enough = re.search(r"^enough = (\d+)$", (ROOT / "crates/promises/specs/Bound.antt").read_text(), re.M)[1]
     found, text = functions(records)
-    return FRONT % (layout, enough) + "".join(map(records.text, found)) + records.sizes(found) + places(records) + text + BACK
+    return FRONT % (layout, enough) + "".join(map(records.text, found)) + records.sizes(found) + places() + text + BACK
 
 
 def main():

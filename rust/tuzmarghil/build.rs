@@ -5,14 +5,13 @@ use std::{env, fs};
 
 /// The crate that exports, and the files whose `#[repr(C)]` structs cross the boundary, or are made of the words that do (`Prefix` stands among them and is neither).
 const EXPORTS: &str = "exports";
-const RECORDS: [&str; 19] = [
+const RECORDS: [&str; 18] = [
     "table/src/sets.rt",
     "table/src/table.rt",
     "syntax/src/marks.rt",
     "syntax/src/record.rt",
     "lists/src/list_words.rt",
     "weights/src/weight_words.rt",
-    "header/src/slice.rt",
     "unit/src/head.rt",
     "exports/src/sets.rt",
     "exports/src/heads.rt",
@@ -111,32 +110,65 @@ fn records(file: &Path) -> String {
     text
 }
 
+/// What each function that lays down a part calls its fields, and what `HeaderShort` calls them.
+const NAMES: [(&str, &str, &str); 13] = [
+    ("lay_frame", "f.", "frame."),
+    ("lay_order", "o.", "order_count."),
+    ("lay_counts", "a.", "active_counts."),
+    (
+        "lay_lists",
+        "l.flag0.",
+        "ref_pic_list_modification_flag_l0.",
+    ),
+    ("lay_lists", "l.count0", "modifications_l0"),
+    (
+        "lay_lists",
+        "l.flag1.",
+        "ref_pic_list_modification_flag_l1.",
+    ),
+    ("lay_lists", "l.count1", "modifications_l1"),
+    ("lay_weights", "w.", "weights."),
+    ("lay_marks", "m.flags.", ""),
+    ("lay_marks", "m.count", "markings"),
+    ("lay_quantiser", "q.", "quantiser."),
+    ("lay_filter", "f.", "filter."),
+    ("lay_lead", "", ""),
+];
+
 /// Where each field of a header stands among its words, as the proved code lays them down: from its lines come a function that lays them down in Rust and one that
 /// takes them up again.
 fn fields(file: &Path) -> String {
     let source = fs::read_to_string(file).unwrap_or_else(|e| panic!("{}: {e}", file.display()));
-    let part = |name: &str| -> Vec<String> {
-        let start = format!("*{name} = [");
-        let lines = source.lines().map(str::trim);
-        let lines = lines.skip_while(|line| *line != start).skip(1);
-        let lines = lines.take_while(|line| *line != "];");
-        lines
-            .map(|line| line.trim_end_matches(',').to_string())
-            .collect()
-    };
-    let parts = [
-        ("o.", "h.order_count."),
-        ("q.", "h.quantiser."),
-        ("f.", "h.filter."),
-    ];
-    let whole = |line: &String| {
-        let part = parts.iter().find(|(short, _)| line.starts_with(short));
-        part.map_or(line.clone(), |(short, long)| line.replacen(short, long, 1))
-    };
-    let numbers = part("numbers");
-    let signed: Vec<String> = part("signed").iter().map(whole).collect();
+    let mut function = "";
+    let (mut places, mut locals) = (Vec::new(), Vec::new());
+    let (mut numbers, mut signed) = (vec![String::new(); 57], vec![String::new(); 7]);
+    for line in source.lines().map(str::trim) {
+        let line = line.trim_start_matches("pub(crate) ").trim_end_matches(';');
+        if let Some(rest) = line.strip_prefix("fn ") {
+            function = rest.split('(').next().unwrap();
+            locals.clear();
+        } else if let Some(rest) = line.strip_prefix("const ") {
+            places.push(rest.split_once(": usize = ").unwrap());
+        } else if let Some(rest) = line.strip_prefix("let ") {
+            locals.push(rest.split_once(" = ").unwrap());
+        } else if let Some((to, from)) = line.split_once("] = ") {
+            let (array, place) = to.split_once('[').unwrap();
+            let words = if array == "numbers" {
+                &mut numbers
+            } else {
+                &mut signed
+            };
+            let place = called(&places, place).parse::<usize>().unwrap();
+            let from = called(&locals, from);
+            let (_, own, whole) = NAMES
+                .into_iter()
+                .find(|(name, own, _)| *name == function && from.starts_with(own))
+                .unwrap_or_else(|| panic!("{}: {line} of {function}", file.display()));
+            words[place] = format!("h.{whole}{}", &from[own.len()..]);
+        }
+    }
     assert!(
-        numbers.len() == 57 && signed.len() == 7,
+        numbers.iter().chain(&signed).all(|field| !field.is_empty()),
         "{} is laid out in another way",
         file.display()
     );
@@ -169,6 +201,12 @@ pub(crate) fn taken_up(numbers: &[u32; 57], signed: &[i32; 7]) -> HeaderShort {{
 }}
 "
     )
+}
+
+/// What stands for a name that was given above; else the name.
+fn called<'a>(given: &[(&str, &'a str)], name: &'a str) -> &'a str {
+    let found = given.iter().find(|(own, _)| *own == name);
+    found.map_or(name, |(_, what)| what)
 }
 
 /// The line with the layout's number, for Rust.

@@ -151,6 +151,30 @@ pub(crate) unsafe trait Plain: Sized {
     }
 }
 
+/// A header without its lists: what its words are taken up as. Of each list it has the count: how many entries of the lent words are used.
+#[derive(Clone, Copy, Debug, PartialEq, Eq)]
+#[repr(C)]
+pub struct HeaderShort {
+    pub first_mb_in_slice: u32,
+    pub slice_type: u32,
+    pub pic_parameter_set_id: u32,
+    pub seq_parameter_set_id: u32,
+    pub frame: Frame,
+    pub order_count: OrderCount,
+    pub active_counts: ActiveCounts,
+    pub ref_pic_list_modification_flag_l0: MarkedFlag,
+    pub modifications_l0: u32,
+    pub ref_pic_list_modification_flag_l1: MarkedFlag,
+    pub modifications_l1: u32,
+    pub weights: WeightsShort,
+    pub no_output_of_prior_pics_flag: MarkedFlag,
+    pub long_term_reference_flag: MarkedFlag,
+    pub adaptive_ref_pic_marking_mode_flag: MarkedFlag,
+    pub markings: u32,
+    pub quantiser: Quantiser,
+    pub filter: Filter,
+}
+
 macro_rules! plain {
     ($($name:ident)*) => { $(
         // SAFETY: the struct is declared above, of integers, bools and such structs and arrays.
