@@ -12,7 +12,7 @@ use crate::refusals::{BUFFER_TOO_SHORT, NO_BITS, Refusal, refuse};
 use crate::window::reached;
 
 // What a write answers.
-#[derive(Drop)]
+#[derive(Clone, Copy)]
 pub enum Wrote {
     // the place after what was written
     At(Cursor),

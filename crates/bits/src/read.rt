@@ -10,27 +10,27 @@ use crate::refusals::{RAN_OUT, Refusal, TOO_MANY_ZEROS, no_refusal, refuse_at};
 use crate::window::{last_window, long_window, reached, short_window, within};
 
 // The place of the next bit. Bit 0 is the top bit of byte 0.
-#[derive(Drop)]
+#[derive(Clone, Copy)]
 pub struct Cursor {
     pub at: usize,
 }
 
 // What an unsigned read finds. In every answer the refusal is the first variant: the compiler takes a tag of 0 for the rare one.
-#[derive(Drop)]
+#[derive(Clone, Copy)]
 pub enum Read {
     Refused(Refusal),
     Got(u32, Cursor),
 }
 
 // What a signed read finds.
-#[derive(Drop)]
+#[derive(Clone, Copy)]
 pub enum ReadSigned {
     Refused(Refusal),
     Got(i32, Cursor),
 }
 
 // What reading a flag finds.
-#[derive(Drop)]
+#[derive(Clone, Copy)]
 pub enum ReadFlag {
     Refused(Refusal),
     Got(bool, Cursor),

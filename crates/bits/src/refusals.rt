@@ -70,7 +70,7 @@ pub const LIMIT: usize = 268_435_456;
 
 // Why a call gives no answer: the rules' number, its value, and the bit place in the unescaped body where the refused field begins. Only a refusal that arises
 // while a body is read has a place; in others `bit` is 0.
-#[derive(Drop)]
+#[derive(Clone, Copy)]
 pub struct Refusal {
     pub number: u8,
     pub has_bit: bool,

@@ -7,7 +7,7 @@ ghost use Rattle.cut.specs.Seam.{tail_body};
 use crate::rest::{is_dropped, zeros_after};
 
 // A place in a unit, and how many zero bytes stand right before it.
-#[derive(Drop)]
+#[derive(Clone, Copy)]
 struct Spot {
     at: usize,
     zeros: usize,

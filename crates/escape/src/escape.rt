@@ -8,7 +8,7 @@ use bits::refusals::{BUFFER_TOO_SHORT, LIMIT, Refusal, TOO_LARGE, refuse};
 use scan::scan::seek;
 
 // What unescaping answers.
-#[derive(Drop)]
+#[derive(Clone, Copy)]
 pub enum Body {
     // how many bytes the body has
     Of(usize),

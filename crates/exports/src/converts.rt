@@ -8,7 +8,7 @@ use framed::convert::{Converted, to_lengths, to_start_codes};
 
 // What converting answers: how many bytes the result has, or the rules' refusal. What the answer does not speak of is zero.
 #[repr(C)]
-#[derive(Drop)]
+#[derive(Clone, Copy)]
 pub struct ConvertedOut {
     pub number: u32,
     pub value: i64,

@@ -8,7 +8,7 @@ use unit::head::{HeadRead, UnitHead, head};
 
 // A unit's head. Beside a refusal its fields are zero.
 #[repr(C)]
-#[derive(Drop)]
+#[derive(Clone, Copy)]
 pub struct HeadOut {
     // the refusal's value and number; 0 and 0 where there is none
     pub value: i64,

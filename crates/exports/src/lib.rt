@@ -1,4 +1,6 @@
 // What other languages call, over the static library: `rt staticlib exports`. Numbers, slices and `#[repr(C)]` structs alone cross this boundary.
+#![tactic(auto)]
+
 pub mod layout; // its number
 pub mod ue_run; // a run of codes
 pub mod sets; // the parameter table

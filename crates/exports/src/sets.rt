@@ -12,7 +12,7 @@ use table::words::{
 
 // A sequence set, or none: then `there` is false and every field zero.
 #[repr(C)]
-#[derive(Drop)]
+#[derive(Clone, Copy)]
 pub struct SequenceOut {
     pub there: bool,
     pub sequence: Sequence,
@@ -20,7 +20,7 @@ pub struct SequenceOut {
 
 // A picture set, or none: then `there` is false and every field zero.
 #[repr(C)]
-#[derive(Drop)]
+#[derive(Clone, Copy)]
 pub struct PictureOut {
     pub there: bool,
     pub picture: Picture,
@@ -28,7 +28,7 @@ pub struct PictureOut {
 
 // What a change of the table answers: the rules' refusal number and its value, or 0 and 0 where it was done.
 #[repr(C)]
-#[derive(Drop)]
+#[derive(Clone, Copy)]
 pub struct ChangedOut {
     pub number: u32,
     pub value: i64,

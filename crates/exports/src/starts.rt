@@ -11,7 +11,7 @@ use unit::begin::has_extension;
 
 // A first byte. Beside a refusal the other fields are zero.
 #[repr(C)]
-#[derive(Drop)]
+#[derive(Clone, Copy)]
 pub struct NalHeaderOut {
     // the refusal's number and value; 0 and 0 where there is none
     pub number: u32,
@@ -25,7 +25,7 @@ pub struct NalHeaderOut {
 
 // nal_unit_header_svc_extension( )
 #[repr(C)]
-#[derive(Drop)]
+#[derive(Clone, Copy)]
 pub struct SvcExtensionOut {
     pub idr_flag: bool,
     pub priority_id: u8,
@@ -40,7 +40,7 @@ pub struct SvcExtensionOut {
 
 // nal_unit_header_mvc_extension( )
 #[repr(C)]
-#[derive(Drop)]
+#[derive(Clone, Copy)]
 pub struct MvcExtensionOut {
     pub non_idr_flag: bool,
     pub priority_id: u8,
@@ -52,7 +52,7 @@ pub struct MvcExtensionOut {
 
 // An extension's three bytes: which of the two they are, and the fields of both.
 #[repr(C)]
-#[derive(Drop)]
+#[derive(Clone, Copy)]
 pub struct ExtensionOut {
     // svc_extension_flag, the first of their bits
     pub is_svc: bool,

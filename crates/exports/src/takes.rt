@@ -13,7 +13,7 @@ use stacking::item::item_of;
 
 // An exposure that is closed, or none: then `there` is false and every field zero.
 #[repr(C)]
-#[derive(Drop)]
+#[derive(Clone, Copy)]
 pub struct ClosedOut {
     pub there: bool,
     pub exposure: Exposure,

@@ -15,7 +15,7 @@ use unit::into::{ShortAnswer, read_body_into};
 
 // What reading a unit answers. What the answer does not speak of is zero.
 #[repr(C)]
-#[derive(Drop)]
+#[derive(Clone, Copy)]
 pub struct ReadOut {
     // 0: a unit of another type; 1: a slice; 2: a prefix unit; 3: refused; 4: a sequence set; 5: a picture set
     pub answer: u32,

@@ -12,7 +12,7 @@ use walk::walk::{Step, next_step, walk_into};
 
 // A step of the walk. What it does not speak of is zero.
 #[repr(C)]
-#[derive(Drop)]
+#[derive(Clone, Copy)]
 pub struct WalkOut {
     // 0: the end; 1: a unit; 2: refused
     pub step: u32,
@@ -29,7 +29,7 @@ pub struct WalkOut {
 
 // The step's part of it, where nothing is read.
 #[repr(C)]
-#[derive(Drop)]
+#[derive(Clone, Copy)]
 pub struct StepOut {
     // 0: the end; 1: a unit; 2: refused
     pub step: u32,

@@ -10,7 +10,7 @@ use writer::write::{HeaderWrote, write_words_in};
 
 // What writing a header answers: its length in bits, or the rules' refusal. What the answer does not speak of is zero.
 #[repr(C)]
-#[derive(Drop)]
+#[derive(Clone, Copy)]
 pub struct WroteOut {
     pub number: u32,
     pub value: i64,

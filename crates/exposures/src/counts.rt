@@ -6,7 +6,7 @@ use crate::exposure::one_more;
 use crate::slice::{Item, Kind};
 
 #[repr(C)]
-#[derive(Drop)]
+#[derive(Clone, Copy)]
 pub struct Counts {
     pub slices: usize,
     pub redundant: usize,

@@ -11,7 +11,7 @@ pub const MOST: usize = 18_446_744_073_709_551_615;
 pub const FAR: i64 = 2_305_843_009_213_693_952;
 
 #[repr(C)]
-#[derive(Drop)]
+#[derive(Clone, Copy)]
 pub struct Exposure {
     // of the first slice
     pub place: usize,

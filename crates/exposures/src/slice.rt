@@ -1,7 +1,7 @@
 // What is taken of a recording, a unit each.
 
 // A slice, as far as pictures and exposures go by it, under the standard's names; a field that is absent is zero.
-#[derive(Drop)]
+#[derive(Clone, Copy)]
 pub struct Slice {
     // where its unit begins
     pub place: usize,
@@ -27,7 +27,7 @@ pub struct Slice {
 
 // What a unit that is not grouped is. A slice of type 1 or 5 is redundant where redundant_pic_cnt is there and not 0; a view is a unit of type 20 or 21 that
 // is read; refused units are of any type.
-#[derive(Drop)]
+#[derive(Clone, Copy)]
 pub enum Kind {
     Redundant,
     Refused,
@@ -36,7 +36,7 @@ pub enum Kind {
     Other,
 }
 
-#[derive(Drop)]
+#[derive(Clone, Copy)]
 pub enum Item {
     Slice(Slice),
     Unit(Kind),

@@ -11,7 +11,7 @@ use crate::slice::{Item, Kind, Slice};
 use crate::words::{exposure_in, last_in, lay};
 
 // An exposure to which nothing more comes, or none.
-#[derive(Drop)]
+#[derive(Clone, Copy)]
 pub enum Closed {
     Nothing,
     Exposure(Exposure),

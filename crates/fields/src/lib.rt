@@ -1,4 +1,6 @@
 // Fields of the header, read: tested ones, and ones that are there only under a condition. A condition is an argument, so that a stage of the header has no branches.
+#![tactic(auto)]
+
 pub mod step; // answers with a field's mark, and the refusal out of one
 mod number; // a number's mark
 mod flag; // a flag's mark

@@ -6,38 +6,38 @@ use bits::read::Cursor;
 use bits::refusals::{Refusal, no_refusal};
 use syntax::marks::{MarkedFlag, MarkedNumber, MarkedSigned};
 
-#[derive(Drop)]
+#[derive(Clone, Copy)]
 pub enum NumberStep {
     Refused(Refusal),
     Got(MarkedNumber, Cursor),
 }
 
-#[derive(Drop)]
+#[derive(Clone, Copy)]
 pub enum SignedStep {
     Refused(Refusal),
     Got(MarkedSigned, Cursor),
 }
 
-#[derive(Drop)]
+#[derive(Clone, Copy)]
 pub enum FlagStep {
     Refused(Refusal),
     Got(MarkedFlag, Cursor),
 }
 
 // A signed value that has no mark, in a struct, so that a stage's pattern binds it whole.
-#[derive(Drop)]
+#[derive(Clone, Copy)]
 pub struct Signed {
     pub value: i32,
 }
 
-#[derive(Drop)]
+#[derive(Clone, Copy)]
 pub enum SignedGiven {
     Refused(Refusal),
     Got(Signed, Cursor),
 }
 
 // Where reading a part that holds arrays ended; the part stands beside it.
-#[derive(Drop)]
+#[derive(Clone, Copy)]
 pub enum End {
     Refused(Refusal),
     At(Cursor),

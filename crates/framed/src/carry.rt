@@ -11,7 +11,7 @@ use scan::scan::seek;
 use walk::walk::Step;
 
 // The place of the first unit that cannot be carried, if there is one.
-#[derive(Drop)]
+#[derive(Clone, Copy)]
 pub enum Uncarried {
     At(usize),
     Nowhere,
@@ -80,7 +80,7 @@ fn is_carried(unit: &[u8]) -> bool
 }
 
 // Where the units end, and which of them is the first that cannot be carried.
-#[derive(Drop)]
+#[derive(Clone, Copy)]
 pub(crate) struct Surveyed {
     pub end: usize,
     pub first: Uncarried,

@@ -16,7 +16,7 @@ use walk::search::{Found, next_unit};
 use walk::walk::Step;
 
 // How many bytes the result has, or why there is none.
-#[derive(Drop)]
+#[derive(Clone, Copy)]
 pub enum Converted {
     Refused(Refusal),
     Of(usize),

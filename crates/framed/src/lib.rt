@@ -1,4 +1,6 @@
 // Recordings framed by length: finding their units and reading each, and from lengths to start codes and back.
+#![tactic(auto)]
+
 pub mod step; // the next unit
 pub mod by_length; // the next unit, read by the parameter table
 pub mod headers; // the same for headers alone

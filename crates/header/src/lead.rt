@@ -13,7 +13,7 @@ use fields::read::tested;
 use table::sets::{Picture, Sequence};
 use table::words::{FoundPicture, FoundSequence, picture_in, sequence_in};
 
-#[derive(Drop)]
+#[derive(Clone, Copy)]
 pub struct Led {
     pub first_mb_in_slice: u32,
     pub slice_type: u32,
@@ -26,7 +26,7 @@ pub struct Led {
 
 // The refusal stands first: the compiler takes the first variant for the rare one. Behind several answers the other way round it would take the rest of the
 // header for rare, call its stages instead of inlining them, and hand their parts on through memory.
-#[derive(Drop)]
+#[derive(Clone, Copy)]
 pub enum LeadStep {
     Refused(Refusal),
     Got(Led, Cursor),

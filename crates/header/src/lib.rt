@@ -1,4 +1,6 @@
 // The slice header: in stages, each a part of it, and whole, into words that the caller lends; the answer is where it ends.
+#![tactic(auto)]
+
 pub mod kinds; // what the first byte and the extension say
 pub mod lead; // first_mb_in_slice to pic_parameter_set_id, and the sets
 pub mod follows; // whether a set bit follows

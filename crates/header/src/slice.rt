@@ -36,7 +36,7 @@ use syntax::record::ActiveCounts;
 use weights::weight_words::{WeightsStep, clear_weights, empty_weights, weights_onto, why_weights};
 
 // ref_pic_list_modification( ) without its lists
-#[derive(Drop)]
+#[derive(Clone, Copy)]
 pub(crate) struct Lists {
     pub(crate) flag0: MarkedFlag,
     pub(crate) count0: u32,
@@ -45,21 +45,21 @@ pub(crate) struct Lists {
 }
 
 // The refusal first, as in `LeadStep`.
-#[derive(Drop)]
+#[derive(Clone, Copy)]
 pub(crate) enum ListsStep {
     Refused(Refusal),
     Got(Lists, Cursor),
 }
 
 // dec_ref_pic_marking( ) without its list
-#[derive(Drop)]
+#[derive(Clone, Copy)]
 pub(crate) struct Marks {
     pub(crate) flags: MarkingFlags,
     pub(crate) count: u32,
 }
 
 // The refusal first, as in `LeadStep`.
-#[derive(Drop)]
+#[derive(Clone, Copy)]
 pub(crate) enum MarksStep {
     Refused(Refusal),
     Got(Marks, Cursor),

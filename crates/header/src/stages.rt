@@ -23,7 +23,7 @@ use syntax::context::Context;
 use syntax::marks::{MarkedFlag, MarkedNumber};
 
 // The flags of dec_ref_pic_marking( )
-#[derive(Drop)]
+#[derive(Clone, Copy)]
 pub struct MarkingFlags {
     pub no_output_of_prior_pics_flag: MarkedFlag,
     pub long_term_reference_flag: MarkedFlag,
@@ -31,7 +31,7 @@ pub struct MarkingFlags {
 }
 
 // The refusal first, as in `LeadStep`.
-#[derive(Drop)]
+#[derive(Clone, Copy)]
 pub enum MarkingStep {
     Refused(Refusal),
     Got(MarkingFlags, Cursor),

@@ -18,7 +18,7 @@ use walk::walk::{Step, WalkedShort, walk_into};
 pub const MOST: usize = 65_536;
 
 // Where a listing has come to: the place to go on from, and how many units it has listed and how many of them were refused.
-#[derive(Drop)]
+#[derive(Clone, Copy)]
 pub struct State {
     pub from: usize,
     pub units: usize,
@@ -26,7 +26,7 @@ pub struct State {
 }
 
 // The state after a line, the length of the line's text, and whether another line follows.
-#[derive(Drop)]
+#[derive(Clone, Copy)]
 pub struct Listed {
     pub state: State,
     pub length: usize,
@@ -155,7 +155,7 @@ fn walk_by(
 }
 
 // The walk's next step, what reading the unit answered, and the words of a slice's fields.
-#[derive(Drop)]
+#[derive(Clone, Copy)]
 struct Next {
     step: Step,
     answer: ShortAnswer,

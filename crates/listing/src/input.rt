@@ -6,7 +6,7 @@ ghost use Rattle.listing.specs.Input.{Within};
 use libc::STDIN_FILENO;
 
 // How many bytes there are, or that a read failed.
-#[derive(Drop)]
+#[derive(Clone, Copy)]
 pub(crate) enum Input {
     Bytes(usize),
     Failed,

@@ -1,5 +1,7 @@
 // Writes the listing of a recording (docs/RULES.md, 'A listing, whole'): reads at most 65,536 bytes of standard input, lists them with the sample sets, and writes
 // each line as it comes. Here bytes are read and written; what the lines say is the crate `list_steps`'s.
+#![tactic(auto)]
+
 mod input; // all of standard input
 
 use libc::{STDERR_FILENO, STDOUT_FILENO};

@@ -17,7 +17,7 @@ use syntax::context::PrefixKind;
 use syntax::marks::MarkedFlag;
 
 // The count, and the place after the closing code; the list stands in the words.
-#[derive(Drop)]
+#[derive(Clone, Copy)]
 pub enum ListStep {
     Refused(Refusal),
     Got(u32, Cursor),
@@ -58,7 +58,7 @@ pub fn empty_list(words: &mut [u32; 198], count: u32)
 }
 
 // A list that has been read: its count, and the place after the closing code.
-#[derive(Drop)]
+#[derive(Clone, Copy)]
 struct Filled {
     count: u32,
     at: Cursor,
@@ -144,7 +144,7 @@ pub fn operations_into(
 
 // prefix_nal_unit_svc( ) without its list, of which it has the count.
 #[repr(C)]
-#[derive(Drop)]
+#[derive(Clone, Copy)]
 pub struct PrefixShort {
     pub store_ref_base_pic_flag: MarkedFlag,
     pub adaptive_ref_base_pic_marking_mode_flag: MarkedFlag,
@@ -152,7 +152,7 @@ pub struct PrefixShort {
     pub additional_prefix_nal_unit_extension_flag: MarkedFlag,
 }
 
-#[derive(Drop)]
+#[derive(Clone, Copy)]
 pub enum PrefixStep {
     Refused(Refusal),
     Got(PrefixShort, Cursor),

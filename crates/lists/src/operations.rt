@@ -3,7 +3,7 @@ ghost use Rattle.std.specs.Prelude.{◌≡◌};
 ghost use Rattle.lists.specs.Kinds.{kind_of};
 
 // What tells one list's syntax from another's. Four bytes in all, so that it is handed on in a register.
-#[derive(Drop)]
+#[derive(Clone, Copy)]
 pub struct ListKind {
     // the code that ends the list
     pub closing: u8,

@@ -8,7 +8,7 @@ ghost use Rattle.nal.specs.Extension.{use_ref_base_pic_flag, discardable_flag, o
 use bits::refusals::{NO_EXTENSION, Refusal, refuse};
 
 // nal_unit_header_mvc_extension( ) and the bit before it
-#[derive(Drop)]
+#[derive(Clone, Copy)]
 pub struct NalHeaderMvcExtension {
     pub b1: u8,
     pub b2: u8,
@@ -54,7 +54,7 @@ impl NalHeaderMvcExtension {
 }
 
 // nal_unit_header_svc_extension( ) and the bit before it
-#[derive(Drop)]
+#[derive(Clone, Copy)]
 pub struct NalHeaderSvcExtension {
     pub b1: u8,
     pub b2: u8,
@@ -117,7 +117,7 @@ impl NalHeaderSvcExtension {
     }
 }
 
-#[derive(Drop)]
+#[derive(Clone, Copy)]
 pub enum NalHeaderExtension {
     Mvc(NalHeaderMvcExtension),
     Svc(NalHeaderSvcExtension),
@@ -145,7 +145,7 @@ impl NalHeaderExtension {
 }
 
 // What reading a unit's extension finds.
-#[derive(Drop)]
+#[derive(Clone, Copy)]
 pub enum ExtensionRead {
     Refused(Refusal),
     Got(NalHeaderExtension),

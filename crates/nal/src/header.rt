@@ -6,11 +6,11 @@ ghost use Rattle.nal.specs.Header.{header_from, header_of, nal_ref_idc, nal_unit
 use crate::unit_type::UnitType;
 use bits::refusals::{FORBIDDEN_ZERO_BIT, NO_BYTE, Refusal, refuse};
 
-#[derive(Drop)]
+#[derive(Clone, Copy)]
 pub struct NalHeader(pub u8);
 
 // What reading a first byte finds.
-#[derive(Drop)]
+#[derive(Clone, Copy)]
 pub enum NalHeaderRead {
     Refused(Refusal),
     Got(NalHeader),

@@ -2,7 +2,7 @@
 ghost use Rattle.std.specs.Prelude.{◌≡◌, ◌%◌};
 ghost use Rattle.nal.specs.UnitType.{type_of, for_id, id_of};
 
-#[derive(Drop)]
+#[derive(Clone, Copy)]
 pub enum UnitType {
     // 0 and 24 to 31
     Unspecified(u8),
@@ -67,7 +67,7 @@ const TYPES: [UnitType; 32] = [
 ];
 
 // What `for_id` answers.
-#[derive(Drop)]
+#[derive(Clone, Copy)]
 pub enum UnitTypeForId {
     Type(UnitType),
     // over 31

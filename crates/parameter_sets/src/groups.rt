@@ -17,7 +17,7 @@ use bits::window::within;
 use fields::step::End;
 
 // What stands before slice_group_id: the change rate, and whether ids follow, one for each map unit.
-#[derive(Drop)]
+#[derive(Clone, Copy)]
 pub struct Groups {
     pub slice_group_change_rate: u32,
     pub ids: bool,
@@ -25,7 +25,7 @@ pub struct Groups {
     pub num_slice_groups_minus1: u32,
 }
 
-#[derive(Drop)]
+#[derive(Clone, Copy)]
 pub enum GroupsStep {
     Refused(Refusal),
     Got(Groups, Cursor),

@@ -17,14 +17,14 @@ use fields::step::{End, SignedGiven, why_end, why_given};
 use table::sets::Picture;
 
 // A set and its id.
-#[derive(Drop)]
+#[derive(Clone, Copy)]
 pub struct PictureSet {
     pub pic_parameter_set_id: u32,
     pub picture: Picture,
 }
 
 // What is read of the parts.
-#[derive(Drop)]
+#[derive(Clone, Copy)]
 pub struct PictureLead {
     pub pic_parameter_set_id: u32,
     pub seq_parameter_set_id: u32,
@@ -32,7 +32,7 @@ pub struct PictureLead {
     pub bottom_field_pic_order_in_frame_present_flag: bool,
 }
 
-#[derive(Drop)]
+#[derive(Clone, Copy)]
 pub struct References {
     pub num_ref_idx_l0_default_active_minus1: u32,
     pub num_ref_idx_l1_default_active_minus1: u32,
@@ -40,7 +40,7 @@ pub struct References {
     pub weighted_bipred_idc: u32,
 }
 
-#[derive(Drop)]
+#[derive(Clone, Copy)]
 pub struct Levels {
     pub pic_init_qp_minus26: i32,
     pub pic_init_qs_minus26: i32,
@@ -49,37 +49,37 @@ pub struct Levels {
 }
 
 // What stands before slice_group_id.
-#[derive(Drop)]
+#[derive(Clone, Copy)]
 pub struct PictureStart {
     pub lead: PictureLead,
     pub groups: Groups,
 }
 
-#[derive(Drop)]
+#[derive(Clone, Copy)]
 pub enum PictureLeadStep {
     Refused(Refusal),
     Got(PictureLead, Cursor),
 }
 
-#[derive(Drop)]
+#[derive(Clone, Copy)]
 pub enum ReferencesStep {
     Refused(Refusal),
     Got(References, Cursor),
 }
 
-#[derive(Drop)]
+#[derive(Clone, Copy)]
 pub enum LevelsStep {
     Refused(Refusal),
     Got(Levels, Cursor),
 }
 
-#[derive(Drop)]
+#[derive(Clone, Copy)]
 pub enum PictureStartStep {
     Refused(Refusal),
     Got(PictureStart, Cursor),
 }
 
-#[derive(Drop)]
+#[derive(Clone, Copy)]
 pub enum PictureSetStep {
     Refused(Refusal),
     Got(PictureSet, Cursor),

@@ -17,27 +17,27 @@ use fields::step::{End, why_end};
 use table::sets::Sequence;
 
 // A set and its id.
-#[derive(Drop)]
+#[derive(Clone, Copy)]
 pub struct SequenceSet {
     pub seq_parameter_set_id: u32,
     pub sequence: Sequence,
 }
 
 // What is read of the parts.
-#[derive(Drop)]
+#[derive(Clone, Copy)]
 pub struct SequenceLead {
     pub profile_idc: u32,
     pub seq_parameter_set_id: u32,
 }
 
-#[derive(Drop)]
+#[derive(Clone, Copy)]
 pub struct Chroma {
     pub chroma_format_idc: u32,
     pub separate_colour_plane_flag: bool,
     pub bit_depth_luma_minus8: u32,
 }
 
-#[derive(Drop)]
+#[derive(Clone, Copy)]
 pub struct Order {
     pub log2_max_frame_num: u32,
     pub pic_order_cnt_type: u32,
@@ -45,37 +45,37 @@ pub struct Order {
     pub delta_pic_order_always_zero_flag: bool,
 }
 
-#[derive(Drop)]
+#[derive(Clone, Copy)]
 pub struct Size {
     pub pic_size_in_map_units: u32,
     pub frame_mbs_only_flag: bool,
 }
 
-#[derive(Drop)]
+#[derive(Clone, Copy)]
 pub enum SequenceSetStep {
     Refused(Refusal),
     Got(SequenceSet, Cursor),
 }
 
-#[derive(Drop)]
+#[derive(Clone, Copy)]
 enum LeadStep {
     Refused(Refusal),
     Got(SequenceLead, Cursor),
 }
 
-#[derive(Drop)]
+#[derive(Clone, Copy)]
 enum ChromaStep {
     Refused(Refusal),
     Got(Chroma, Cursor),
 }
 
-#[derive(Drop)]
+#[derive(Clone, Copy)]
 enum OrderStep {
     Refused(Refusal),
     Got(Order, Cursor),
 }
 
-#[derive(Drop)]
+#[derive(Clone, Copy)]
 enum SizeStep {
     Refused(Refusal),
     Got(Size, Cursor),

@@ -14,7 +14,7 @@ use syntax::record::ActiveCounts;
 // The greatest num_ref_idx_l0_active_minus1 and num_ref_idx_l1_active_minus1.
 const MOST: u32 = 31;
 
-#[derive(Drop)]
+#[derive(Clone, Copy)]
 pub enum ActiveCountsStep {
     Refused(Refusal),
     Got(ActiveCounts, Cursor),

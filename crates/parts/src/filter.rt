@@ -12,7 +12,7 @@ use fields::step::{NumberStep, SignedStep, why_number, why_signed};
 use syntax::context::Context;
 use syntax::record::Filter;
 
-#[derive(Drop)]
+#[derive(Clone, Copy)]
 pub enum FilterStep {
     Refused(Refusal),
     Got(Filter, Cursor),

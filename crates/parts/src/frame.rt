@@ -11,7 +11,7 @@ use fields::step::{FlagStep, NumberStep, why_flag, why_number};
 use syntax::context::Context;
 use syntax::record::Frame;
 
-#[derive(Drop)]
+#[derive(Clone, Copy)]
 pub enum FrameStep {
     Refused(Refusal),
     Got(Frame, Cursor),

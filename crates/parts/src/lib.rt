@@ -1,4 +1,6 @@
 // The header's parts without lists, a stage of at most six reads for each: a paragraph of the syntax table.
+#![tactic(auto)]
+
 pub mod frame; // colour_plane_id to idr_pic_id
 pub mod order; // pic_order_cnt_lsb to redundant_pic_cnt
 pub mod counts; // direct_spatial_mv_pred_flag to num_ref_idx_l1_active_minus1

@@ -12,13 +12,13 @@ use fields::step::{NumberStep, SignedGiven, SignedStep, why_given, why_number, w
 use syntax::context::Context;
 use syntax::record::{Deltas, OrderCount};
 
-#[derive(Drop)]
+#[derive(Clone, Copy)]
 pub enum OrderCountStep {
     Refused(Refusal),
     Got(OrderCount, Cursor),
 }
 
-#[derive(Drop)]
+#[derive(Clone, Copy)]
 enum DeltasStep {
     Refused(Refusal),
     Got(Deltas, Cursor),

@@ -15,7 +15,7 @@ use fields::step::{
 use syntax::context::Context;
 use syntax::record::Quantiser;
 
-#[derive(Drop)]
+#[derive(Clone, Copy)]
 pub enum QuantiserStep {
     Refused(Refusal),
     Got(Quantiser, Cursor),

@@ -1,4 +1,6 @@
 // A reader holds the unescaped body and a bit place. Its functions are thin: each takes the reader apart and calls a cursor function on the slice and the place.
+#![tactic(auto)]
+
 ghost use Rattle.std.specs.Prelude.{◌≡◌};
 ghost use Rattle.bits.specs.Answers.{as_read, as_signed, as_flag};
 ghost use Rattle.bits.specs.Bits.{bits_of};
@@ -6,7 +8,7 @@ ghost use Rattle.bits.specs.Codes.{u_at, flag_at, ue_at, se_at};
 
 use bits::read::{Cursor, Read, ReadFlag, ReadSigned};
 
-#[derive(Drop)]
+#[derive(Clone, Copy)]
 pub struct Reader<'a> {
     pub body: &'a [u8],
     pub at: usize,

@@ -1,4 +1,6 @@
 // The record that lent words hold, taken out of them.
+#![tactic(auto)]
+
 pub mod parts_of; // the parts without lists
 pub mod entries; // lists
 pub mod record; // the header and the prefix, whole

@@ -12,7 +12,7 @@ use syntax::marks::MarkedNumber;
 use table::words::{FoundPicture, picture_in};
 
 // The counts minus 1 that a slice has by its picture set.
-#[derive(Drop)]
+#[derive(Clone, Copy)]
 struct Defaults {
     l0: u32,
     l1: u32,

@@ -33,7 +33,7 @@ fn no_sequence() -> Sequence
 }
 
 // What a slice needs of its picture set.
-#[derive(Drop)]
+#[derive(Clone, Copy)]
 struct PictureUse {
     seq_parameter_set_id: u32,
     pic_init_qp_minus26: i32,

@@ -3,7 +3,7 @@ use table::sets::{Picture, Sequence};
 
 // What the first byte and the extension say.
 #[repr(C)]
-#[derive(Drop)]
+#[derive(Clone, Copy)]
 pub struct UnitKind {
     // nal_ref_idc is not 0
     pub reference: bool,
@@ -17,7 +17,7 @@ pub struct UnitKind {
 
 // What the first byte and the extension of a prefix unit say of its body.
 #[repr(C)]
-#[derive(Drop)]
+#[derive(Clone, Copy)]
 pub struct PrefixKind {
     // the body is read: the extension is SVC, and nal_ref_idc is not 0
     pub there: bool,
@@ -27,7 +27,7 @@ pub struct PrefixKind {
 }
 
 #[repr(C)]
-#[derive(Drop)]
+#[derive(Clone, Copy)]
 pub struct Context {
     pub kind: UnitKind,
     pub picture: Picture,

@@ -3,7 +3,7 @@ use crate::marks::{MarkedFlag, MarkedNumber, MarkedSigned};
 
 // Where and how the picture is.
 #[repr(C)]
-#[derive(Drop)]
+#[derive(Clone, Copy)]
 pub struct Frame {
     pub colour_plane_id: MarkedNumber,
     pub frame_num: u32,
@@ -14,7 +14,7 @@ pub struct Frame {
 
 // delta_pic_order_cnt[0] and [1]: there where the order count type is 1, both zero where the sequence set says so.
 #[repr(C)]
-#[derive(Drop)]
+#[derive(Clone, Copy)]
 pub struct Deltas {
     pub there: bool,
     pub first: i32,
@@ -22,7 +22,7 @@ pub struct Deltas {
 }
 
 #[repr(C)]
-#[derive(Drop)]
+#[derive(Clone, Copy)]
 pub struct OrderCount {
     pub pic_order_cnt_lsb: MarkedNumber,
     pub delta_pic_order_cnt_bottom: MarkedSigned,
@@ -31,7 +31,7 @@ pub struct OrderCount {
 }
 
 #[repr(C)]
-#[derive(Drop)]
+#[derive(Clone, Copy)]
 pub struct ActiveCounts {
     pub direct_spatial_mv_pred_flag: MarkedFlag,
     pub num_ref_idx_active_override_flag: MarkedFlag,
@@ -41,7 +41,7 @@ pub struct ActiveCounts {
 
 // Codes with up to two operands each, `count` of them, the closing code left out; unused entries are zero.
 #[repr(C)]
-#[derive(Drop)]
+#[derive(Clone, Copy)]
 pub struct Operations {
     pub count: u32,
     pub codes: [u32; 66],
@@ -51,14 +51,14 @@ pub struct Operations {
 
 // ref_pic_list_modification( ): a flag for each list, kept, since a flagged list may be empty.
 #[repr(C)]
-#[derive(Drop)]
+#[derive(Clone, Copy)]
 pub struct Modification {
     pub flag: MarkedFlag,
     pub operations: Operations,
 }
 
 #[repr(C)]
-#[derive(Drop)]
+#[derive(Clone, Copy)]
 pub struct Modifications {
     pub l0: Modification,
     pub l1: Modification,
@@ -66,7 +66,7 @@ pub struct Modifications {
 
 // An entry of pred_weight_table( ).
 #[repr(C)]
-#[derive(Drop)]
+#[derive(Clone, Copy)]
 pub struct Weight {
     pub luma_weight_flag: bool,
     pub luma_weight: i32,
@@ -80,14 +80,14 @@ pub struct Weight {
 
 // One entry for each active reference, `count` of them; unused entries are zero.
 #[repr(C)]
-#[derive(Drop)]
+#[derive(Clone, Copy)]
 pub struct WeightList {
     pub count: u32,
     pub entries: [Weight; 32],
 }
 
 #[repr(C)]
-#[derive(Drop)]
+#[derive(Clone, Copy)]
 pub struct PredWeightTable {
     pub there: bool,
     pub luma_log2_weight_denom: u32,
@@ -98,7 +98,7 @@ pub struct PredWeightTable {
 
 // dec_ref_pic_marking( )
 #[repr(C)]
-#[derive(Drop)]
+#[derive(Clone, Copy)]
 pub struct DecRefPicMarking {
     pub no_output_of_prior_pics_flag: MarkedFlag,
     pub long_term_reference_flag: MarkedFlag,
@@ -107,7 +107,7 @@ pub struct DecRefPicMarking {
 }
 
 #[repr(C)]
-#[derive(Drop)]
+#[derive(Clone, Copy)]
 pub struct Quantiser {
     pub cabac_init_idc: MarkedNumber,
     pub slice_qp_delta: i32,
@@ -116,7 +116,7 @@ pub struct Quantiser {
 }
 
 #[repr(C)]
-#[derive(Drop)]
+#[derive(Clone, Copy)]
 pub struct Filter {
     pub disable_deblocking_filter_idc: MarkedNumber,
     pub slice_alpha_c0_offset_div2: MarkedSigned,
@@ -125,7 +125,7 @@ pub struct Filter {
 }
 
 #[repr(C)]
-#[derive(Drop)]
+#[derive(Clone, Copy)]
 pub struct SliceHeader {
     pub first_mb_in_slice: u32,
     pub slice_type: u32,
@@ -143,7 +143,7 @@ pub struct SliceHeader {
 
 // prefix_nal_unit_svc( )
 #[repr(C)]
-#[derive(Drop)]
+#[derive(Clone, Copy)]
 pub struct Prefix {
     pub store_ref_base_pic_flag: MarkedFlag,
     pub adaptive_ref_base_pic_marking_mode_flag: MarkedFlag,

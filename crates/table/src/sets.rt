@@ -4,7 +4,7 @@ ghost use Rattle.table.specs.Sets.{between, between_z, planes_fit, sequence_fits
 
 // What a sequence parameter set says (7.3.2.1.1).
 #[repr(C)]
-#[derive(Drop)]
+#[derive(Clone, Copy)]
 pub struct Sequence {
     pub chroma_format_idc: u32,
     pub separate_colour_plane_flag: bool,
@@ -19,7 +19,7 @@ pub struct Sequence {
 
 // What a picture parameter set says (7.3.2.2). A change rate of 0 is an absent one.
 #[repr(C)]
-#[derive(Drop)]
+#[derive(Clone, Copy)]
 pub struct Picture {
     pub seq_parameter_set_id: u32,
     pub entropy_coding_mode_flag: bool,

@@ -8,14 +8,14 @@ use crate::words::{
 };
 
 #[repr(C)]
-#[derive(Drop)]
+#[derive(Clone, Copy)]
 pub struct Table {
     pub sequences: [u32; 224],
     pub pictures: [u32; 2304],
 }
 
 // A table's answer beside the table, where it goes by value.
-#[derive(Drop)]
+#[derive(Clone, Copy)]
 pub struct WithTable {
     pub answer: Changed,
     pub table: Table,

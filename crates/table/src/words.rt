@@ -11,21 +11,21 @@ use bits::refusals::{Refusal, TABLE_FIELD, refuse};
 use bits::width::change_cycle_width;
 
 // What a look-up finds.
-#[derive(Drop)]
+#[derive(Clone, Copy)]
 pub enum FoundSequence {
     Absent,
     There(Sequence),
 }
 
 // With a picture set stands its change cycle's width.
-#[derive(Drop)]
+#[derive(Clone, Copy)]
 pub enum FoundPicture {
     Absent,
     There(Picture, u32),
 }
 
 // What a change of the table answers.
-#[derive(Drop)]
+#[derive(Clone, Copy)]
 pub enum Changed {
     Done,
     Refused(Refusal),

@@ -1,5 +1,7 @@
 // Runs the edges of the rules that bits, nal and escape have, and prints each answer on a line. The cases come from standard input, which tests/try_bits.py writes;
 // what is printed is held to the file stdout beside src/, which it works out anew.
+#![tactic(auto)]
+
 mod show; // answers as text
 mod numbers; // the input's numbers
 mod reads; // codes at their limits

@@ -1,5 +1,5 @@
 // The input's numbers, in decimal: a sign or none, digits, and one byte of any kind that ends them.
-#[derive(Drop)]
+#[derive(Clone, Copy)]
 pub(crate) struct Number {
     pub(crate) negative: bool,
     pub(crate) size: u32,

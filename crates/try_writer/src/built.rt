@@ -3,7 +3,7 @@ use super::show::byte_at;
 use writer::given::ExtensionGiven;
 
 // Where the next byte goes, and how many zeros stand before it, 2 for more.
-#[derive(Drop)]
+#[derive(Clone, Copy)]
 pub(crate) struct Built {
     pub(crate) at: usize,
     pub(crate) zeros: u32,

@@ -8,7 +8,7 @@ use writer::given::ExtensionGiven;
 use writer::write::{HeaderWrote, write_words_in};
 
 // What the unit starts with.
-#[derive(Drop)]
+#[derive(Clone, Copy)]
 pub(crate) struct Start {
     pub(crate) first: u8,
     pub(crate) extension: ExtensionGiven,

@@ -12,7 +12,7 @@ use parameter_sets::sequence::SequenceSet;
 use syntax::marks::MarkedFlag;
 use syntax::record::{Prefix, SliceHeader};
 
-#[derive(Drop)]
+#[derive(Clone, Copy)]
 pub enum UnitAnswer {
     // a slice header, of so many bits
     Slice(usize),
@@ -26,7 +26,7 @@ pub enum UnitAnswer {
 }
 
 // The answer, and the records: what the answer does not speak of is zero.
-#[derive(Drop)]
+#[derive(Clone, Copy)]
 pub struct UnitRead {
     pub answer: UnitAnswer,
     pub header: SliceHeader,

@@ -10,7 +10,7 @@ use nal::extension::{NalHeaderExtension, NalHeaderMvcExtension};
 use nal::header::NalHeader;
 use syntax::context::{PrefixKind, UnitKind};
 
-#[derive(Drop)]
+#[derive(Clone, Copy)]
 pub enum Begun {
     // a slice, and the place where its body starts
     Slice(UnitKind, usize),

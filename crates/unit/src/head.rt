@@ -9,7 +9,7 @@ use fields::conditions::both;
 use nal::header::{NalHeader, NalHeaderRead, header_of};
 
 #[repr(C)]
-#[derive(Drop)]
+#[derive(Clone, Copy)]
 pub struct UnitHead {
     // the number of nal_unit_type
     pub nal_unit_type: u8,
@@ -20,7 +20,7 @@ pub struct UnitHead {
     pub b3: u8,
 }
 
-#[derive(Drop)]
+#[derive(Clone, Copy)]
 pub enum HeadRead {
     Refused(Refusal),
     Got(UnitHead),

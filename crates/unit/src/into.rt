@@ -21,7 +21,7 @@ use parameter_sets::picture::{PictureSet, PictureSetStep, picture_set};
 use parameter_sets::sequence::{SequenceSet, SequenceSetStep, sequence_set};
 use syntax::context::{PrefixKind, UnitKind};
 
-#[derive(Drop)]
+#[derive(Clone, Copy)]
 pub enum ShortAnswer {
     // a slice header, of so many bits, which stands in the words
     Slice(usize),

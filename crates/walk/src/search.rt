@@ -6,7 +6,7 @@ ghost use Rattle.walk.specs.Seen.{next_seen};
 use scan::scan::{hit_at, seek};
 
 // What a search finds: a unit's first byte, its length and the place to go on from; or no unit.
-#[derive(Drop)]
+#[derive(Clone, Copy)]
 pub enum Found {
     At {
         place: usize,
@@ -99,7 +99,7 @@ pub fn next_unit(recording: &[u8], from: usize) -> Found
 }
 
 // What is found, and how many of the unit's first bytes begin neither an end mark nor 00 00 02 or 00 00 03.
-#[derive(Drop)]
+#[derive(Clone, Copy)]
 pub struct Seen {
     pub found: Found,
     pub clear: usize,

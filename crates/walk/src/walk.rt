@@ -12,7 +12,7 @@ use bits::refusals::{LIMIT, Refusal, TOO_LARGE, refuse};
 use unit::into::ShortAnswer;
 
 // What a step came to: a unit's place, its length and the place to go on from; the end; or a refusal (27; in a recording framed by length also 29).
-#[derive(Drop)]
+#[derive(Clone, Copy)]
 pub enum Step {
     Unit(usize, usize, usize),
     End,
@@ -20,7 +20,7 @@ pub enum Step {
 }
 
 // The step, and what reading the unit answers: where there is none, nothing (ShortAnswer::Other(0)).
-#[derive(Drop)]
+#[derive(Clone, Copy)]
 pub struct WalkedShort {
     pub step: Step,
     pub answer: ShortAnswer,

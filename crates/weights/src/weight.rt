@@ -11,26 +11,26 @@ use fields::read::{given_flag, given_signed};
 use fields::step::{SignedGiven, why_given};
 use syntax::record::Weight;
 
-#[derive(Drop)]
+#[derive(Clone, Copy)]
 pub enum WeightStep {
     Refused(Refusal),
     Got(Weight, Cursor),
 }
 
-#[derive(Drop)]
+#[derive(Clone, Copy)]
 struct Luma {
     flag: bool,
     weight: i32,
     offset: i32,
 }
 
-#[derive(Drop)]
+#[derive(Clone, Copy)]
 enum LumaStep {
     Refused(Refusal),
     Got(Luma, Cursor),
 }
 
-#[derive(Drop)]
+#[derive(Clone, Copy)]
 struct Chroma {
     flag: bool,
     cb_weight: i32,
@@ -39,7 +39,7 @@ struct Chroma {
     cr_offset: i32,
 }
 
-#[derive(Drop)]
+#[derive(Clone, Copy)]
 enum ChromaStep {
     Refused(Refusal),
     Got(Chroma, Cursor),

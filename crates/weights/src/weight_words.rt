@@ -20,7 +20,7 @@ use syntax::record::Weight;
 
 // The table without its entries: l0 and l1 are their counts. An entry is eight words, in the syntax's order, with flags as 0 and 1.
 #[repr(C)]
-#[derive(Drop)]
+#[derive(Clone, Copy)]
 pub struct WeightsShort {
     pub there: bool,
     pub luma_log2_weight_denom: u32,
@@ -30,14 +30,14 @@ pub struct WeightsShort {
 }
 
 // The refusal first, as in `LeadStep`.
-#[derive(Drop)]
+#[derive(Clone, Copy)]
 pub enum WeightsStep {
     Refused(Refusal),
     Got(WeightsShort, Cursor),
 }
 
 // How many entries a list has.
-#[derive(Drop)]
+#[derive(Clone, Copy)]
 enum ListStep {
     Refused(Refusal),
     Got(u32, Cursor),

@@ -11,7 +11,7 @@ use syntax::context::UnitKind;
 
 // The three extension bytes; where they are not there, they are unused. Types 1 and 5 make no use of them.
 #[repr(C)]
-#[derive(Drop)]
+#[derive(Clone, Copy)]
 pub struct ExtensionGiven {
     pub there: bool,
     pub b1: u8,
@@ -20,7 +20,7 @@ pub struct ExtensionGiven {
 }
 
 // The kind of the unit that the header is written for.
-#[derive(Drop)]
+#[derive(Clone, Copy)]
 pub(crate) enum KindGiven {
     Refused(Refusal),
     Of(UnitKind),

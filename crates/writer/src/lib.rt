@@ -1,4 +1,6 @@
 // The header written: its parts in order into a buffer, by the same formats that read it.
+#![tactic(auto)]
+
 pub mod given; // the extension given, and what it and the first byte say of the unit
 mod sets; // the sets that the record's picture set id names
 mod places; // places in the buffer, handed along

@@ -10,7 +10,7 @@ use table::sets::{Picture, Sequence};
 use table::words::{FoundPicture, FoundSequence, picture_in, sequence_in};
 
 // The picture set with its change cycle's width, and the sequence set.
-#[derive(Drop)]
+#[derive(Clone, Copy)]
 pub(crate) enum SetsFor {
     Refused(Refusal),
     There(Picture, u32, Sequence),

@@ -17,7 +17,7 @@ use fields::conditions::both;
 use syntax::context::Context;
 
 // What writing a header answers.
-#[derive(Drop)]
+#[derive(Clone, Copy)]
 pub enum HeaderWrote {
     // so many bits
     Bits(usize),

@@ -1,0 +1,7 @@
+use native.Mathlib.Omega.{arith}
+use Rattle.bits.proofs.Fills.{one_shl}
+use borrow.Author.Rules.{rules}
+use Rattle.bits.proofs.put.fits.Goals as goal
+
+pub returns : goal.returns
+returns c = rw (one_shl c.args.n (omega arith))

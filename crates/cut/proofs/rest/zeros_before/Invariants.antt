@@ -1,0 +1,15 @@
+use native.Mathlib.Omega.{arith}
+use Prim.Native.Nat.{◌-◌, ◌≤◌}
+use native.Mathlib.Numerals.{add-one}
+use mathlib.Core.Path.{◌≡◌, refl, sym, ◌∙◌}
+use lib.ListN.{get_or, take, drop}
+use Rattle.cut.specs.Seam.{zeros_over}
+use Rattle.cut.proofs.Bytes.{zeros-few, zeros-more, zeros-end}
+use borrow.Author.Rules.{rules}
+use Rattle.cut.proofs.rest.zeros_before.Given as goal
+
+abbrev pub invariant-loop-i : goal.invariant-loop-i
+invariant-loop-i l = (zeros_over 0 (drop l.from (take l.to l.unit)) ≡ zeros_over l.z (drop l.i (take l.to l.unit))) × (l.z ≤ l.i) × (l.z ≤ l.to)
+
+abbrev pub decreases-loop-i : goal.decreases-loop-i
+decreases-loop-i l = l.to - l.i

@@ -1,0 +1,15 @@
+use mathlib.Core.Path.{ap, ◌∙◌}
+use mathlib.Core.List.{List}
+use Prim.Native.Nat.{ℕ}
+use borrow.Author.Rules.{rules}
+use Rattle.escape.specs.declared.escape.Body.{Body}
+use Rattle.escape.specs.Body.{Unescaped}
+use Rattle.escape.proofs.Bodies.{none-known, answered, leaves}
+use Rattle.escape.proofs.escape.unescape.Goals as goal
+
+pub returns : goal.returns
+returns c =
+    let a = c.args in
+    let k = c.unescape_known.ensures in
+    let e = none-known a.unit.now a.from a.scratch.now in
+    record { value = k.0 ∙ ap answered e; scratch_after = k.1 ∙ ap leaves e }

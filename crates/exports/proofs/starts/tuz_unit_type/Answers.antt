@@ -1,0 +1,11 @@
+use Rattle.std.proofs.Common.{rules}
+use Rattle.exports.proofs.starts.tuz_unit_type.Goals as goal
+
+pub enum_told-1 : goal.enum_told-1
+enum_told-1 c = search rules
+
+pub returns-in-Type : goal.returns-in-Type
+returns-in-Type c = rw (c.kind.ensures, ← c.for_id.ensures, c.in-Type.is)
+
+pub returns-in-ValueOutOfRange : goal.returns-in-ValueOutOfRange
+returns-in-ValueOutOfRange c = rw (← c.for_id.ensures, c.in-ValueOutOfRange.is)

@@ -1,0 +1,11 @@
+use Rattle.fmt.specs.Leaves.{ue}
+use Rattle.fields.proofs.Cases.{given-there, given-absent}
+use borrow.Author.Rules.{rules}
+use Rattle.fields.proofs.read.given.Goals as goal
+
+pub returns-then-there : goal.returns-then-there
+unfolding ue
+returns-then-there c = given-there _ _ _ _ _ _ _ c.if-there.true c.ue.ensures
+
+pub returns-else-there : goal.returns-else-there
+returns-else-there c = given-absent _ _ _ _ _ _ c.if-there.false

@@ -1,0 +1,15 @@
+use borrow.Author.Rules.{rules}
+use mathlib.Core.Bool.{false≢true}
+use native.Mathlib.Omega.{arith}
+use Prim.Native.Nat.{◌+◌, ◌-◌, ◌≤◌}
+use lib.ListN.{length}
+use Rattle.scan.specs.Clear.{Clear}
+use Rattle.scan.proofs.Clears.{clear_none, clear-join, clear-part}
+use Rattle.framed.proofs.Carried.{no-pair}
+use Rattle.framed.proofs.carry.has_no_pair.Given as goal
+
+abbrev pub invariant-loop-i : goal.invariant-loop-i
+invariant-loop-i l = (l.i ≤ l.last) × Clear 0 0 l.unit 0 l.i
+
+abbrev pub decreases-loop-i : goal.decreases-loop-i
+decreases-loop-i l = l.last - l.i

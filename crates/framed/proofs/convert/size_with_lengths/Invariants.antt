@@ -1,0 +1,17 @@
+use borrow.Author.Rules.{rules}
+use mathlib.Core.Path.{◌≡◌, sym, ◌∙◌}
+use Prim.Native.Nat.{◌≤◌, ◌-◌, ◌+◌, ◌*◌}
+use native.Mathlib.Omega.{arith}
+use lib.ListN.{length, drop}
+use Rattle.walk.specs.Units.{units_at, units}
+use Rattle.walk.proofs.Chain.{went, ended}
+use Rattle.framed.specs.Convert.{length_bytes, joined, bytes_of}
+use Rattle.framed.proofs.Joins.{size-on, place-behind, part_length}
+use Rattle.framed.proofs.convert.size_with_lengths.Given as goal
+
+abbrev pub invariant-loop-length : goal.invariant-loop-length
+invariant-loop-length l =
+    (l.i ≤ length l.recording) × (l.o ≤ 2 * l.i) × (l.o + length (joined length_bytes (bytes_of (units_at l.i (drop l.i l.recording)))) ≡ length (joined length_bytes (bytes_of (units l.recording))))
+
+abbrev pub decreases-loop-length : goal.decreases-loop-length
+decreases-loop-length l = length l.recording - l.i

@@ -1,0 +1,27 @@
+use native.Mathlib.Omega.{arith}
+use mathlib.Core.Path.{refl, sym, ◌∙◌}
+use lib.Seq.{take_all}
+use Rattle.cut.specs.Seam.{body_bits, behind_bits, near}
+use lib.ListN.{take}
+use Rattle.cut.proofs.Seams.{cut-bits}
+use Rattle.front.proofs.Steps.{prefix-kept, prefix-refusal-kept}
+use borrow.Author.Rules.{rules}
+use Rattle.front.proofs.body.prefix_body.Goals as goal
+
+pub returns-then-unit-le-NEAR : goal.returns-then-unit-le-NEAR
+returns-then-unit-le-NEAR c = rw (← take_all near c.args.unit.now (omega arith)) c.prefix_near-a.ensures
+
+pub returns-in_default : goal.returns-in_default
+returns-in_default c =
+    let u = c.args.unit.now in
+    let h = c.prefix_near-a.ensures in
+    rw (cut-bits u 4 near (omega arith) (omega arith)) (prefix-kept c.args.kind (body_bits (take near u) 4) (behind_bits u 4 near) h.0 h.1 _ _ c.in_default.is)
+
+pub returns-then-may_change : goal.returns-then-may_change
+returns-then-may_change c = c.prefix_far.ensures
+
+pub returns : goal.returns
+returns c =
+    let u = c.args.unit.now in
+    let h = c.prefix_near-a.ensures in
+    rw (cut-bits u 4 near (omega arith) (omega arith)) (prefix-refusal-kept c.args.kind (body_bits (take near u) 4) (behind_bits u 4 near) (sym c.in-Refused.is ∙ h.0) h.1 _ refl (sym c.may_change.ensures ∙ c.if-may_change.false))

@@ -1,0 +1,18 @@
+use native.Mathlib.Omega.{arith}
+use mathlib.Core.Path.{sym}
+use lib.Seq.{length-take-le}
+use Rattle.cut.proofs.Fronts.{far-prefix}
+use Rattle.cut.proofs.Firsts.{far-held, far-bits}
+use borrow.Author.Rules.{rules}
+use Rattle.front.proofs.body.prefix_far.Goals as goal
+
+pub slice_bounds-local-end : goal.slice_bounds-local-end
+slice_bounds-local-end c = (far-held c.args.unit.now 4 c.far_body-n.ensures.value c.far_body-n.ensures.local_after).0
+
+pub slice_bounds-prefix_into-end : goal.slice_bounds-prefix_into-end
+slice_bounds-prefix_into-end c = sym (length-take-le _ _ (far-held c.args.unit.now 4 c.far_body-n.ensures.value c.far_body-n.ensures.local_after).0)
+
+pub returns : goal.returns
+returns c =
+    let u = c.args.unit.now in
+    rw (← far-prefix u 4 (omega arith) c.args.kind, ← far-bits u 4 (far-held u 4 c.far_body-n.ensures.value c.far_body-n.ensures.local_after).1) c.prefix_into.ensures

@@ -1,0 +1,17 @@
+use Rattle.header.proofs.Told.{left-got, left-no}
+use Rattle.header.proofs.Tried.{part-is}
+use borrow.Author.Rules.{rules}
+use Rattle.header.proofs.escaped.read_escaped_into.Goals as goal
+
+pub enum_told-1 : goal.enum_told-1
+enum_told-1 c = search rules
+
+pub returns-in_default : goal.returns-in_default
+returns-in_default c =
+    rw (← part-is c.args.unit.now c.start_in-start.result c.args.from c.start_in-start.ensures)
+    (left-no _ _ _ _ _ c.fill_by_parts-a.ensures c.in_default.is c.clear_header.ensures)
+
+pub returns : goal.returns
+returns c =
+    rw (← part-is c.args.unit.now c.start_in-start.result c.args.from c.start_in-start.ensures)
+    (left-got _ _ _ _ c.empty_lists.ensures c.fill_by_parts-a.ensures c.in-At.is)

@@ -1,0 +1,55 @@
+use borrow.Author.Rules.{rules}
+use mathlib.Core.Path.{sym, ap, ◌∙◌}
+use Rattle.fields.specs.Steps.{as_flag}
+use Rattle.header.specs.declared.slice.Lists.{Lists}
+use Rattle.header.specs.declared.slice.ListsStep.{ListsStep}
+use Rattle.lists.proofs.Lent.{list-onto, list-refused, list-covered}
+use Rattle.header.proofs.Told.{told-lists-no, told-lists}
+use Rattle.header.proofs.Lists.{first-no, l0-no, second-no, l1-no, both_read, lists-same}
+use Rattle.header.proofs.Kept.{untouched, l0-covered, l1-covered}
+use Rattle.header.proofs.slice.lists_into.Goals as goal
+
+pub enum_told-1 : goal.enum_told-1
+enum_told-1 c = search rules
+
+pub returns-in_default : goal.returns-in_default
+returns-in_default c =
+    let hg = sym c.first_flag-a1.ensures ∙ ap as_flag c.in_default.is in
+    (told-lists-no _ _ _ _ (first-no _ _ _ _ hg) (rw (c.why_flag.ensures, c.in_default.is)), (untouched _ _ _ _ _, untouched _ _ _ _ _))
+
+pub returns-in_default-a2 : goal.returns-in_default-a2
+returns-in_default-a2 c =
+    let hg = sym c.first_flag-a1.ensures ∙ ap as_flag c.in-Got.is in
+    let o = rw c.modification_kind-codes.ensures at c.operations_onto-a2.ensures in
+    let ho = list-refused _ o.0 c.in_default-a2.is in
+    (told-lists-no _ _ _ _ (l0-no _ _ _ _ hg ho) (rw (c.why_list.ensures, c.in_default-a2.is)), (l0-covered _ _ _ _ hg _ _ (list-covered _ _ _ _ _ _ o.1), untouched _ _ _ _ _))
+
+pub returns-in_default-a3 : goal.returns-in_default-a3
+returns-in_default-a3 c =
+    let hg = sym c.first_flag-a1.ensures ∙ ap as_flag c.in-Got.is in
+    let o = rw c.modification_kind-codes.ensures at c.operations_onto-a2.ensures in
+    let lo = list-onto _ _ _ _ _ o.0 o.1 c.in-Got-a2.is in
+    let hh = sym (rw c.is_type.ensures at c.flag_if-a3.ensures) ∙ ap as_flag c.in_default-a3.is in
+    (told-lists-no _ _ _ _ (second-no _ _ _ _ hg lo.read hh) (rw (c.why_flag-in_default-a3.ensures, c.in_default-a3.is)), (l0-covered _ _ _ _ hg _ _ (list-covered _ _ _ _ _ _ o.1), untouched _ _ _ _ _))
+
+pub returns-in_default-a4 : goal.returns-in_default-a4
+returns-in_default-a4 c =
+    let hg = sym c.first_flag-a1.ensures ∙ ap as_flag c.in-Got.is in
+    let o = rw c.modification_kind-codes.ensures at c.operations_onto-a2.ensures in
+    let lo = list-onto _ _ _ _ _ o.0 o.1 c.in-Got-a2.is in
+    let hh = sym (rw c.is_type.ensures at c.flag_if-a3.ensures) ∙ ap as_flag c.in-Got-a3.is in
+    let p = rw c.modification_kind-codes.ensures at c.operations_onto-a4.ensures in
+    let hp = list-refused _ p.0 c.in_default-a4.is in
+    (told-lists-no _ _ _ _ (l1-no _ _ _ _ hg lo.read hh hp) (rw (c.why_list-in_default-a4.ensures, c.in_default-a4.is)), (l0-covered _ _ _ _ hg _ _ (list-covered _ _ _ _ _ _ o.1), l1-covered _ _ _ _ hg _ _ lo.read hh (list-covered _ _ _ _ _ _ p.1)))
+
+pub returns : goal.returns
+returns c =
+    let hg = sym c.first_flag-a1.ensures ∙ ap as_flag c.in-Got.is in
+    let o = rw c.modification_kind-codes.ensures at c.operations_onto-a2.ensures in
+    let lo = list-onto _ _ _ _ _ o.0 o.1 c.in-Got-a2.is in
+    let hh = sym (rw c.is_type.ensures at c.flag_if-a3.ensures) ∙ ap as_flag c.in-Got-a3.is in
+    let p = rw c.modification_kind-codes.ensures at c.operations_onto-a4.ensures in
+    let lp = list-onto _ _ _ _ _ p.0 p.1 c.in-Got-a4.is in (
+      told-lists _ _ (both_read _ _ _ _ hg lo.read hh lp.read) (ap (λ (l : Lists). ListsStep.Got l c.in-Got-a4.c4) (lists-same lo.list lp.list lo.counted lp.counted)) lo.held lp.held,
+      (l0-covered _ _ _ _ hg _ _ (list-covered _ _ _ _ _ _ o.1), l1-covered _ _ _ _ hg _ _ lo.read hh (list-covered _ _ _ _ _ _ p.1)),
+    )

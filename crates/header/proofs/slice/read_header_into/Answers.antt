@@ -1,0 +1,12 @@
+use borrow.Author.Rules.{rules}
+use Rattle.header.proofs.Told.{left-got, left-no}
+use Rattle.header.proofs.slice.read_header_into.Goals as goal
+
+pub enum_told-1 : goal.enum_told-1
+enum_told-1 c = search rules
+
+pub returns-in_default : goal.returns-in_default
+returns-in_default c = left-no _ _ _ _ _ c.fill-a.ensures.filled c.in_default.is c.clear_header.ensures
+
+pub returns : goal.returns
+returns c = left-got _ _ _ _ c.empty_lists.ensures c.fill-a.ensures.filled c.in-At.is

@@ -1,0 +1,24 @@
+use borrow.Author.Rules.{rules}
+use mathlib.Core.Path.{refl}
+use Rattle.header.specs.Stages.{back_at}
+use Rattle.header.specs.Told.{BackTold}
+use Rattle.header.proofs.Parts.{back-laid, back-signed}
+use Rattle.header.proofs.stages.back.Goals as goal
+
+pub enum_told-1 : goal.enum_told-1
+enum_told-1 c = search rules
+
+pub returns-in_default : goal.returns-in_default
+unfolding back_at BackTold
+returns-in_default c = rw (c.why_quantiser.ensures, ← c.quantiser-a1.ensures, c.in_default.is)
+
+pub returns-in_default-a2 : goal.returns-in_default-a2
+unfolding back_at BackTold
+returns-in_default-a2 c = rw (c.why_filter.ensures, ← c.quantiser-a1.ensures, c.in-Got.is, ← c.filter-a2.ensures, c.in_default-a2.is)
+
+pub returns : goal.returns
+unfolding back_at BackTold
+returns c =
+    let q = c.lay_quantiser.ensures in
+    let f = c.lay_filter.ensures in
+    rw (← c.quantiser-a1.ensures, c.in-Got.is, ← c.filter-a2.ensures, c.in-Got-a2.is) (refl, (back-laid c.in-Got.quantiser c.in-Got-a2.filter c.args.numbers.now q.0 f.0, back-signed c.in-Got.quantiser c.in-Got-a2.filter c.args.signed.now q.1 f.1))

@@ -1,0 +1,15 @@
+use borrow.Author.Rules.{rules}
+use Rattle.bits.specs.Bits.{bits_of}
+use Rattle.header.specs.Stages.{first_flag_at}
+use Rattle.header.proofs.stages.first_flag.Goals as goal
+
+pub enum_told-1 : goal.enum_told-1
+enum_told-1 c = search rules
+
+pub returns-in_default : goal.returns-in_default
+unfolding first_flag_at
+returns-in_default c = rw (c.why_end.ensures, ← c.not_scalable-a1.ensures (bits_of c.args.s.now), c.in_default.is)
+
+pub returns : goal.returns
+unfolding first_flag_at
+returns c = rw (← c.not_scalable-a1.ensures (bits_of c.args.s.now), c.in-At.is, ← c.has_l0.ensures) c.flag_if.ensures

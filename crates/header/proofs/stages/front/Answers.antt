@@ -1,0 +1,27 @@
+use borrow.Author.Rules.{rules}
+use mathlib.Core.Path.{refl}
+use Rattle.header.specs.Stages.{front_at}
+use Rattle.header.specs.Told.{FrontTold}
+use Rattle.header.proofs.Parts.{front-laid}
+use Rattle.header.proofs.stages.front.Goals as goal
+
+pub enum_told-1 : goal.enum_told-1
+enum_told-1 c = search rules
+
+pub returns-in_default : goal.returns-in_default
+unfolding front_at FrontTold
+returns-in_default c = rw (c.why_frame.ensures, ← c.frame-a1.ensures, c.in_default.is)
+
+pub returns-in_default-a2 : goal.returns-in_default-a2
+unfolding front_at FrontTold
+returns-in_default-a2 c = rw (c.why_order_count.ensures, ← c.frame-a1.ensures, c.in-Got.is, ← c.order_count-a2.ensures, c.in_default-a2.is)
+
+pub returns-in_default-a3 : goal.returns-in_default-a3
+unfolding front_at FrontTold
+returns-in_default-a3 c = rw (c.why_active_counts.ensures, ← c.frame-a1.ensures, c.in-Got.is, ← c.order_count-a2.ensures, c.in-Got-a2.is, ← c.active_counts-a3.ensures, c.in_default-a3.is)
+
+pub returns : goal.returns
+unfolding front_at FrontTold
+returns c =
+    let o = c.lay_order.ensures in
+    rw (← c.frame-a1.ensures, c.in-Got.is, ← c.order_count-a2.ensures, c.in-Got-a2.is, ← c.active_counts-a3.ensures, c.in-Got-a3.is) (refl, (front-laid c.in-Got.frame c.in-Got-a2.order_count c.in-Got-a3.active_counts c.args.numbers.now c.lay_frame.ensures o.0 c.lay_counts.ensures, o.1))

@@ -1,0 +1,19 @@
+use borrow.Author.Rules.{rules}
+use native.Mathlib.Omega.{arith}
+use Rattle.lines.specs.Lines.{lent_line}
+use Rattle.lines.proofs.Decimals.{decimal-64}
+use Rattle.lines.proofs.Texts.{then, written}
+use Rattle.lines.proofs.line.unit_line.Goals as goal
+
+pub field-a-requires : goal.field-a-requires
+field-a-requires c = omega (arith, decimal-64 c.args.place c.ranges.place.fits)
+
+pub field-b-requires : goal.field-b-requires
+field-b-requires c = omega (arith, decimal-64 c.args.place c.ranges.place.fits, decimal-64 c.args.length c.ranges.length.fits)
+
+pub answer_words-c-requires : goal.answer_words-c-requires
+answer_words-c-requires c = omega (arith, decimal-64 c.args.place c.ranges.place.fits, decimal-64 c.args.length c.ranges.length.fits)
+
+pub returns : goal.returns
+unfolding lent_line
+returns c = written (then (then (then c.field-a.ensures c.field-b.ensures) c.answer_words-c.ensures.0) c.words.ensures) (omega arith)

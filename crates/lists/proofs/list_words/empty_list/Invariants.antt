@@ -1,0 +1,12 @@
+use Prim.Native.Nat.{◌-◌}
+use native.Mathlib.Omega.{arith}
+use borrow.Author.Rules.{rules}
+use Rattle.lists.specs.ListsLent.{emptied_list}
+use Rattle.lists.proofs.Emptied.{Emptying, emptying-none, emptying-in, emptying-more, emptied, at-most-66}
+use Rattle.lists.proofs.list_words.empty_list.Given as goal
+
+abbrev pub invariant-loop-k : goal.invariant-loop-k
+invariant-loop-k l = Emptying 0 198 l.initial.words l.end l.words l.k
+
+abbrev pub decreases-loop-k : goal.decreases-loop-k
+decreases-loop-k l = l.end - l.k

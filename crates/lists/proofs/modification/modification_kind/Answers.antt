@@ -1,0 +1,5 @@
+use borrow.Author.Rules.{rules}
+use Rattle.lists.proofs.modification.modification_kind.Goals as goal
+
+pub returns : goal.returns
+returns c = rw c.greatest.ensures

@@ -1,0 +1,10 @@
+use native.Mathlib.Omega.{arith}
+use borrow.Author.Tests.{eqb-true, eqb-false}
+use lib.Dec.{lit≤}
+use Rattle.nal.specs.Extension.{mvc_bits, inter_view_flag}
+use Rattle.nal.proofs.ThreeBytes.{three-flag}
+use Rattle.nal.proofs.extension.NalHeaderMvcExtension.inter_view_flag.Goals as goal
+
+pub returns : goal.returns
+unfolding inter_view_flag mvc_bits
+returns c = let e = c.args.self in three-flag e.b1 e.b2 e.b3 (omega arith) (omega arith) 22 _ (lit≤ tt) (λ h. omega (arith, eqb-true)) (λ h g. omega (arith, eqb-false))

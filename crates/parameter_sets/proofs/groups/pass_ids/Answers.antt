@@ -1,0 +1,6 @@
+use Rattle.parameter_sets.proofs.PictureParts.{ends-passed}
+use borrow.Author.Rules.{rules}
+use Rattle.parameter_sets.proofs.groups.pass_ids.Goals as goal
+
+pub returns : goal.returns
+returns c = rw (c.ids_end.ensures, c.bit_length.ensures) (ends-passed _ _ _)

@@ -1,0 +1,27 @@
+use Rattle.fmt.specs.Fmt.{seq, shaped}
+use Rattle.syntax.specs.SliceHeader.{filter}
+use borrow.Author.Rules.{rules}
+use Rattle.parts.proofs.filter.filter.Goals as goal
+
+pub enum_told-1 : goal.enum_told-1
+enum_told-1 c = search rules
+
+pub returns-in_default : goal.returns-in_default
+unfolding filter seq shaped
+returns-in_default c = rw (c.why_number.ensures, ← c.tested_if-a1.ensures, c.in_default.is)
+
+pub returns-in_default-a2 : goal.returns-in_default-a2
+unfolding filter seq shaped
+returns-in_default-a2 c = rw (c.why_signed.ensures, ← c.tested_if-a1.ensures, c.in-Got.is, ← c.both-offsets.ensures, ← c.offset_if-a2.ensures, c.in_default-a2.is)
+
+pub returns-in_default-a3 : goal.returns-in_default-a3
+unfolding filter seq shaped
+returns-in_default-a3 c = rw (c.why_signed-in_default-a3.ensures, ← c.tested_if-a1.ensures, c.in-Got.is, ← c.both-offsets.ensures, ← c.offset_if-a2.ensures, c.in-Got-a2.is, ← c.offset_if-a3.ensures, c.in_default-a3.is)
+
+pub returns-in_default-a4 : goal.returns-in_default-a4
+unfolding filter seq shaped
+returns-in_default-a4 c = rw (c.why_number-in_default-a4.ensures, ← c.tested_if-a1.ensures, c.in-Got.is, ← c.both-offsets.ensures, ← c.offset_if-a2.ensures, c.in-Got-a2.is, ← c.offset_if-a3.ensures, c.in-Got-a3.is, ← c.bits_if-a4.ensures, c.in_default-a4.is)
+
+pub returns : goal.returns
+unfolding filter seq shaped
+returns c = rw (← c.tested_if-a1.ensures, c.in-Got.is, ← c.both-offsets.ensures, ← c.offset_if-a2.ensures, c.in-Got-a2.is, ← c.offset_if-a3.ensures, c.in-Got-a3.is, ← c.bits_if-a4.ensures, c.in-Got-a4.is)

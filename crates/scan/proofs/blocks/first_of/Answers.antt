@@ -1,0 +1,25 @@
+use borrow.Author.Rules.{rules}
+use native.Mathlib.Omega.{arith}
+use mathlib.Core.Path.{◌≡◌}
+use Prim.Native.Nat.{ℕ, ◌+◌, ◌-◌, ◌≤◌, ◌<◌}
+use Rattle.scan.specs.Clear.{Spot}
+use Rattle.scan.proofs.Clears.{first_step, first-clear}
+use Rattle.scan.proofs.blocks.first_of.Goals as goal
+
+pub loop-k-init : goal.loop-k-init
+loop-k-init c = (omega arith, omega arith, λ j h p. absurd (omega arith))
+
+pub loop-k-preserved : goal.loop-k-preserved
+loop-k-preserved c =
+    let a = c.args in (
+      omega arith,
+      omega (arith, c.lower-m.ensures.0),
+      first_step a.mask a.flip a.s.now a.i c.loop-k.k c.loop-k.m c.trace-x.result c.place_of.result c.lower-m.result
+          c.loop-k.invariant.2 c.trace-x.ensures c.place_of.ensures c.lower-m.ensures.0 c.lower-m.ensures.1,
+    )
+
+pub returns : goal.returns
+returns c =
+    let a = c.args in
+    let q : c.loop-k.k ≡ a.count = omega arith in
+    (c.loop-k.invariant.1, first-clear a.mask a.flip a.s.now a.i a.count c.loop-k.m c.loop-k.invariant.1 (λ j h p. c.loop-k.invariant.2 j (omega arith) p))

@@ -1,0 +1,24 @@
+use borrow.Author.Rules.{rules}
+use borrow.Author.Tests.{ltb-true}
+use native.Mathlib.Omega.{arith}
+use mathlib.Core.Path.{◌≡◌}
+use Prim.Native.Nat.{ℕ, ◌+◌, ◌-◌, ◌≤◌, ◌<◌}
+use Rattle.scan.specs.Clear.{Clear}
+use Rattle.scan.proofs.Clears.{clear_none, clear_step}
+use Rattle.scan.proofs.blocks.is_clear.Goals as goal
+
+pub loop-k-init : goal.loop-k-init
+loop-k-init c = let a = c.args in (omega arith, λ h. clear_none a.mask a.flip a.s.now a.i)
+
+pub loop-k-preserved : goal.loop-k-preserved
+loop-k-preserved c =
+    let a = c.args in (
+      omega arith,
+      clear_step a.mask a.flip a.s.now a.i c.loop-k.k c.loop-k.m c.trace.result c.lower-m.result
+          c.loop-k.invariant.1 c.trace.ensures c.lower-m.ensures.0 c.lower-m.ensures.1,
+    )
+
+pub returns : goal.returns
+returns c = λ e.
+    let q : c.loop-k.k ≡ c.args.count = omega arith in
+    rw q at (c.loop-k.invariant.1 (ltb-true 0 c.loop-k.m e))

@@ -1,0 +1,24 @@
+use borrow.Author.Rules.{rules}
+use native.Mathlib.Omega.{arith}
+use Prim.Native.Nat.{ℕ, ◌+◌, ◌-◌, ◌≤◌, ◌<◌}
+use lib.ListN.{length}
+use Rattle.scan.specs.Clear.{Clear}
+use Rattle.scan.proofs.Clears.{clear-join}
+use Rattle.scan.proofs.blocks.pass_large.Goals as goal
+
+pub loop-i-init : goal.loop-i-init
+loop-i-init c = (omega arith, omega arith, λ j a b p. absurd (omega arith))
+
+pub loop-i-preserved : goal.loop-i-preserved
+loop-i-preserved c =
+    let a = c.args in (
+      omega arith,
+      omega arith,
+      clear-join a.mask a.flip a.s.now a.from c.loop-i.i (c.loop-i.i + 128) c.loop-i.invariant.2 (c.is_passed_large.ensures c.if-is_passed_large.true),
+    )
+
+pub returns-else-is_passed_large : goal.returns-else-is_passed_large
+returns-else-is_passed_large c = c.loop-i.invariant
+
+pub returns : goal.returns
+returns c = c.loop-i.invariant

@@ -1,0 +1,6 @@
+use borrow.Author.Rules.{rules}
+use mathlib.Core.Path.{refl}
+use Rattle.scan.proofs.blocks.two.Goals as goal
+
+pub returns : goal.returns
+returns c = rw (c.wide.ensures, c.wide-2.ensures) refl

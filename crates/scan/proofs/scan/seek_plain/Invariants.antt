@@ -1,0 +1,14 @@
+use borrow.Author.Rules.{rules}
+use native.Mathlib.Omega.{arith}
+use mathlib.Core.Path.{◌≡◌, refl, sym, ap, ◌∙◌}
+use Prim.Native.Nat.{ℕ, ◌+◌, ◌-◌, ◌≤◌}
+use lib.ListN.{length, drop, length-drop}
+use Rattle.scan.specs.Scan.{upto}
+use Rattle.scan.proofs.Hits.{upto-hit, upto-miss, upto_skip, upto-short}
+use Rattle.scan.proofs.scan.seek_plain.Given as goal
+
+abbrev pub invariant-loop-i : goal.invariant-loop-i
+invariant-loop-i l = (l.i ≤ length l.s) × (l.from + upto l.low l.high (drop l.from l.s) ≡ l.i + upto l.low l.high (drop l.i l.s))
+
+abbrev pub decreases-loop-i : goal.decreases-loop-i
+decreases-loop-i l = length l.s - l.i

@@ -1,0 +1,22 @@
+use mathlib.Core.Path.{◌≡◌, sym, ◌∙◌, ap}
+use Prim.Native.Nat.{ℕ, ◌*◌}
+use Rattle.table.specs.Sets.{sequence_fits}
+use Rattle.table.specs.Tables.{sequence_of}
+use Rattle.table.proofs.Tests.{two}
+use Rattle.table.proofs.Looking.{entry_at, sequence-past, sequence-none, sequence-there}
+use borrow.Author.Rules.{rules}
+use Rattle.table.proofs.words.sequence_in.Goals as goal
+
+pub returns-then-id-gt31 : goal.returns-then-id-gt31
+returns-then-id-gt31 c = sym (sequence-past _ _ c.if-id-gt31.true)
+
+pub bounds-t-i-6 : goal.bounds-t-i-6
+bounds-t-i-6 c = search rules
+
+pub returns-then-both : goal.returns-then-both
+unfolding sequence_of
+returns-then-both c = sym (sequence-there _ _ c.if-id-gt31.false (two c.both.ensures c.within.ensures c.sequence_fits.ensures ∙ c.if-both.true))
+
+pub returns-else-both : goal.returns-else-both
+unfolding sequence_of
+returns-else-both c = sym (sequence-none _ _ c.if-id-gt31.false (two c.both.ensures c.within.ensures c.sequence_fits.ensures ∙ c.if-both.false))

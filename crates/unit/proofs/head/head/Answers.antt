@@ -1,0 +1,16 @@
+use borrow.Author.Tests.{le-leb, lt-leb}
+use Rattle.unit.specs.Head.{head_of}
+use borrow.Author.Rules.{rules}
+use Rattle.unit.proofs.head.head.Goals as goal
+
+pub returns-then-unit-gt-LIMIT : goal.returns-then-unit-gt-LIMIT
+unfolding head_of
+returns-then-unit-gt-LIMIT c = rw (c.refuse.ensures, lt-leb _ _ c.if-unit-gt-LIMIT.true)
+
+pub returns-in-Got : goal.returns-in-Got
+unfolding head_of
+returns-in-Got c = rw (c.head_typed.ensures, le-leb _ _ c.if-unit-gt-LIMIT.false, ← c.header_of.ensures, c.in-Got.is)
+
+pub returns-in-Refused : goal.returns-in-Refused
+unfolding head_of
+returns-in-Refused c = rw (le-leb _ _ c.if-unit-gt-LIMIT.false, ← c.header_of.ensures, c.in-Refused.is)

@@ -1,0 +1,25 @@
+use mathlib.Core.Path.{sym, ◌∙◌}
+use lib.Seq.{length-take-le}
+use Rattle.unit.specs.Unit.{prefix_bits}
+use Rattle.unit.proofs.Opened.{written, opened, closed}
+use Rattle.unit.proofs.Held.{body-taken, none-taken}
+use borrow.Author.Rules.{rules}
+use Rattle.unit.proofs.into.body_into.Goals as goal
+
+pub slice_bounds-prefix_into-end : goal.slice_bounds-prefix_into-end
+slice_bounds-prefix_into-end c = written _ _ _ _ _ c.requires c.unescape_known.ensures.scratch_after (sym c.in-Of.is ∙ c.unescape_known.ensures.value)
+
+pub slice_bounds-prefix_into-end-in-Of : goal.slice_bounds-prefix_into-end-in-Of
+slice_bounds-prefix_into-end-in-Of c = sym (length-take-le _ _ (written _ _ _ _ _ c.requires c.unescape_known.ensures.scratch_after (sym c.in-Of.is ∙ c.unescape_known.ensures.value)))
+
+pub returns-in-Of : goal.returns-in-Of
+returns-in-Of c =
+    let a = c.args in
+    let u = c.unescape_known.ensures in
+    let p = c.prefix_into.ensures in
+    body-taken _ _ (opened _ _ _ _ _ c.requires u.1 (sym c.in-Of.is ∙ u.0) (prefix_bits a.kind)) a.base.now p.0 p.1 c.body_short.ensures
+
+pub returns-in-Refused : goal.returns-in-Refused
+returns-in-Refused c =
+    let u = c.unescape_known.ensures in
+    λ h. none-taken _ (closed _ _ _ _ _ c.requires u.1 (sym c.in-Refused.is ∙ u.0) (prefix_bits c.args.kind)) _ _

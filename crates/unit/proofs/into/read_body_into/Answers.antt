@@ -1,0 +1,9 @@
+use Rattle.header.specs.Lead.{table_of}
+use Rattle.unit.proofs.Known.{none-known-body}
+use borrow.Author.Rules.{rules}
+use Rattle.unit.proofs.into.read_body_into.Goals as goal
+
+pub returns : goal.returns
+returns c =
+    let a = c.args in
+    rw (← none-known-body (table_of a.sequences.now a.pictures.now) a.head a.unit.now a.scratch.now) c.read_known_into.ensures

@@ -1,0 +1,8 @@
+use Rattle.walk.proofs.Kept.{long-short}
+use borrow.Author.Rules.{rules}
+use Rattle.walk.proofs.headers.front_in_turn.Goals as goal
+
+pub returns : goal.returns
+returns c =
+    let g = c.read_headers-answer.ensures in
+    record { answered = g.answered; left = g.left; table = long-short _ _ g.answered c.keep_set.ensures; words = g.words }

@@ -1,0 +1,14 @@
+use borrow.Author.Rules.{rules}
+use native.Mathlib.Omega.{arith}
+use mathlib.Core.Path.{◌≡◌, sym, ◌∙◌}
+use Prim.Native.Nat.{◌-◌, ◌≤◌}
+use lib.ListN.{length, drop, take}
+use Rattle.walk.specs.Walk.{kept}
+use Rattle.walk.proofs.Trims.{trim-on, trim-stop, trim_start}
+use Rattle.walk.proofs.search.trim.Given as goal
+
+abbrev pub invariant-loop-e : goal.invariant-loop-e
+invariant-loop-e l = (l.from ≤ l.e) × (l.e ≤ length l.s) × (kept (drop l.from l.s) ≡ kept (take (l.e - l.from) (drop l.from l.s)))
+
+abbrev pub decreases-loop-e : goal.decreases-loop-e
+decreases-loop-e l = l.e

@@ -1,0 +1,19 @@
+use mathlib.Core.Path.{sym, ◌∙◌}
+use Rattle.header.specs.Lead.{table_of}
+use Rattle.unit.proofs.Held.{refused-into}
+use Rattle.unit.proofs.Known.{known-given, known-refused}
+use borrow.Author.Rules.{rules}
+use Rattle.walk.proofs.turn.read_unit.Goals as goal
+
+pub returns-in-Got : goal.returns-in-Got
+returns-in-Got c =
+    let a = c.args in
+    rw (← known-given a.known (table_of a.sequences.now a.pictures.now) a.unit.now a.scratch.now (sym c.head.ensures ∙ c.in-Got.is))
+    c.read_known_into.ensures
+
+pub returns-in-Refused : goal.returns-in-Refused
+returns-in-Refused c =
+    let a = c.args in
+    refused-into
+    (known-refused a.known (table_of a.sequences.now a.pictures.now) a.unit.now a.scratch.now (sym c.head.ensures ∙ c.in-Refused.is)) _
+    c.clear_words.ensures

@@ -1,0 +1,12 @@
+use Rattle.writer.proofs.Fields.{given-there, given-absent, given-unfit}
+use borrow.Author.Rules.{rules}
+use Rattle.writer.proofs.marks.put_given_flag.Goals as goal
+
+pub returns-then-there : goal.returns-then-there
+returns-then-there c = given-there _ _ _ _ _ c.if-there.true c.put_flag.ensures
+
+pub returns-then-not-v : goal.returns-then-not-v
+returns-then-not-v c = given-absent _ _ _ _ _ c.if-there.false c.if-not-v.true
+
+pub returns-else-not-v : goal.returns-else-not-v
+returns-else-not-v c = given-unfit _ _ _ _ _ c.if-there.false c.if-not-v.false
