@@ -12,4 +12,4 @@ returns c =
     let a = c.args in
     let k = c.unescape_known.ensures in
     let e = none-known a.unit.now a.from a.scratch.now in
-    record { value = k.0 ∙ ap answered e; scratch_after = k.1 ∙ ap leaves e }
+    record { value = k.value ∙ ap answered e; scratch_after = k.scratch_after ∙ ap leaves e }

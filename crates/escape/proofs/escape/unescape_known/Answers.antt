@@ -26,4 +26,4 @@ returns c =
     let a = c.args in
     let k = c.copy_kept in
     let e = known-done a.unit.now a.from a.known a.scratch.now (omega arith) (omega arith) in
-    record { value = rw k.ensures.0 (sym (ap answered e)); scratch_after = rw (k.ensures.1, k.ensures.0) (sym (ap leaves e)) }
+    record { value = rw k.ensures.value (sym (ap answered e)); scratch_after = rw (k.ensures.scratch_after, k.ensures.value) (sym (ap leaves e)) }

@@ -19,7 +19,7 @@ shape_of-out-in_default c = c.loop-place.invariant.1.same
 pub returns-in_default : goal.returns-in_default
 returns-in_default c =
     let e = ended c.args.recording.now c.loop-place.i (sym c.next_unit.ensures ∙ c.in_default.is) in
-    filled-all (rw e at c.loop-place.invariant.1)
+    (let all = filled-all (rw e at c.loop-place.invariant.1) in (all.0, all.1))
 
 pub overflow_add-end : goal.overflow_add-end
 overflow_add-end c = let w = went c.args.recording.now c.loop-place.i _ _ _ (sym c.next_unit.ensures ∙ c.in-At.is) in omega arith

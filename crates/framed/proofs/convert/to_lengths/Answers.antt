@@ -37,7 +37,7 @@ returns-then-is_roomy c =
     let m = lengths-most a.recording.now in
     let p = c.put_lengths in
     let e = lengths-done a.recording.now a.out.now (omega arith) _ refl (omega arith) (omega arith) in
-    record { value = rw p.ensures.0 (sym (ap answered e)); out_after = p.ensures.1 ∙ sym (ap leaves e) }
+    record { value = rw p.ensures.value (sym (ap answered e)); out_after = p.ensures.out_after ∙ sym (ap leaves e) }
 
 pub returns-then-need-gt-LIMIT : goal.returns-then-need-gt-LIMIT
 returns-then-need-gt-LIMIT c =
@@ -63,4 +63,4 @@ returns c =
     let k = c.size_with_lengths-need in
     let p = c.put_lengths-2 in
     let e = lengths-done a.recording.now a.out.now (omega arith) k.result k.ensures (omega arith) (omega arith) in
-    record { value = rw p.ensures.0 (sym (ap answered e)); out_after = p.ensures.1 ∙ sym (ap leaves e) }
+    record { value = rw p.ensures.value (sym (ap answered e)); out_after = p.ensures.out_after ∙ sym (ap leaves e) }

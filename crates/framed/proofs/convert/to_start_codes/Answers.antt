@@ -68,4 +68,4 @@ returns c =
     let q = c.survey-found.ensures.end_value in
     let k = c.put_codes in
     let e = codes-done a.recording.now a.out.now (omega arith) (omega arith) (sym c.survey-found.ensures.first_value ∙ c.in_default.is) (omega arith) in
-    record { value = rw k.ensures.0 (sym (ap answered e)); out_after = k.ensures.1 ∙ sym (ap leaves e) }
+    record { value = rw k.ensures.value (sym (ap answered e)); out_after = k.ensures.out_after ∙ sym (ap leaves e) }

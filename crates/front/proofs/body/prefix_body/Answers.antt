@@ -15,7 +15,7 @@ pub returns-in_default : goal.returns-in_default
 returns-in_default c =
     let u = c.args.unit.now in
     let h = c.prefix_near-a.ensures in
-    rw (cut-bits u 4 near (omega arith) (omega arith)) (prefix-kept c.args.kind (body_bits (take near u) 4) (behind_bits u 4 near) h.0 h.1 _ _ c.in_default.is)
+    rw (cut-bits u 4 near (omega arith) (omega arith)) (prefix-kept c.args.kind (body_bits (take near u) 4) (behind_bits u 4 near) h.value h.base_after _ _ c.in_default.is)
 
 pub returns-then-may_change : goal.returns-then-may_change
 returns-then-may_change c = c.prefix_far.ensures
@@ -24,4 +24,4 @@ pub returns : goal.returns
 returns c =
     let u = c.args.unit.now in
     let h = c.prefix_near-a.ensures in
-    rw (cut-bits u 4 near (omega arith) (omega arith)) (prefix-refusal-kept c.args.kind (body_bits (take near u) 4) (behind_bits u 4 near) (sym c.in-Refused.is ∙ h.0) h.1 _ refl (sym c.may_change.ensures ∙ c.if-may_change.false))
+    rw (cut-bits u 4 near (omega arith) (omega arith)) (prefix-refusal-kept c.args.kind (body_bits (take near u) 4) (behind_bits u 4 near) (sym c.in-Refused.is ∙ h.value) h.base_after _ refl (sym c.may_change.ensures ∙ c.if-may_change.false))

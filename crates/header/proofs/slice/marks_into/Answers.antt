@@ -21,12 +21,12 @@ pub returns-in_default-a2 : goal.returns-in_default-a2
 returns-in_default-a2 c =
     let hm = sym c.marking_flags-a1.ensures ∙ ap as_marking c.in-Got.is in
     let o = rw c.marking_kind.ensures at c.operations_onto-a2.ensures in
-    let hq = list-refused _ o.0 c.in_default-a2.is in
-    record { marks_told = told-marks-no _ _ (marking-no _ _ _ hm hq) (rw (c.why_list.ensures, c.in_default-a2.is)); covered = marking-covered _ _ _ hm _ _ (list-covered _ _ _ _ _ _ o.1) }
+    let hq = list-refused _ o.value c.in_default-a2.is in
+    record { marks_told = told-marks-no _ _ (marking-no _ _ _ hm hq) (rw (c.why_list.ensures, c.in_default-a2.is)); covered = marking-covered _ _ _ hm _ _ (list-covered _ _ _ _ _ _ o.words_after) }
 
 pub returns : goal.returns
 returns c =
     let hm = sym c.marking_flags-a1.ensures ∙ ap as_marking c.in-Got.is in
     let o = rw c.marking_kind.ensures at c.operations_onto-a2.ensures in
-    let lq = list-onto _ _ _ _ _ o.0 o.1 c.in-Got-a2.is in
-    record { marks_told = told-marks _ (marking-read _ _ _ hm lq.read) (ap (λ (k : Marks). MarksStep.Got k c.in-Got-a2.c2) (marks-same lq.list lq.counted)) lq.held; covered = marking-covered _ _ _ hm _ _ (list-covered _ _ _ _ _ _ o.1) }
+    let lq = list-onto _ _ _ _ _ o.value o.words_after c.in-Got-a2.is in
+    record { marks_told = told-marks _ (marking-read _ _ _ hm lq.read) (ap (λ (k : Marks). MarksStep.Got k c.in-Got-a2.c2) (marks-same lq.list lq.counted)) lq.held; covered = marking-covered _ _ _ hm _ _ (list-covered _ _ _ _ _ _ o.words_after) }

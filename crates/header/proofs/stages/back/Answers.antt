@@ -21,4 +21,4 @@ unfolding back_at BackTold
 returns c =
     let q = c.lay_quantiser.ensures in
     let f = c.lay_filter.ensures in
-    rw (← c.quantiser-a1.ensures, c.in-Got.is, ← c.filter-a2.ensures, c.in-Got-a2.is) (refl, (back-laid c.in-Got.quantiser c.in-Got-a2.filter c.args.numbers.now q.0 f.0, back-signed c.in-Got.quantiser c.in-Got-a2.filter c.args.signed.now q.1 f.1))
+    rw (← c.quantiser-a1.ensures, c.in-Got.is, ← c.filter-a2.ensures, c.in-Got-a2.is) (refl, (back-laid c.in-Got.quantiser c.in-Got-a2.filter c.args.numbers.now q.numbers_after f.numbers_after, back-signed c.in-Got.quantiser c.in-Got-a2.filter c.args.signed.now q.signed_after f.signed_after))

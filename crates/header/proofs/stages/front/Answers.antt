@@ -24,4 +24,4 @@ pub returns : goal.returns
 unfolding front_at FrontTold
 returns c =
     let o = c.lay_order.ensures in
-    rw (← c.frame-a1.ensures, c.in-Got.is, ← c.order_count-a2.ensures, c.in-Got-a2.is, ← c.active_counts-a3.ensures, c.in-Got-a3.is) (refl, (front-laid c.in-Got.frame c.in-Got-a2.order_count c.in-Got-a3.active_counts c.args.numbers.now c.lay_frame.ensures o.0 c.lay_counts.ensures, o.1))
+    rw (← c.frame-a1.ensures, c.in-Got.is, ← c.order_count-a2.ensures, c.in-Got-a2.is, ← c.active_counts-a3.ensures, c.in-Got-a3.is) (refl, (front-laid c.in-Got.frame c.in-Got-a2.order_count c.in-Got-a3.active_counts c.args.numbers.now c.lay_frame.ensures o.numbers_after c.lay_counts.ensures, o.signed_after))

@@ -25,11 +25,11 @@ abbrev number-below : ℕ → In 1 number-kinds.ps
 number-below t = and 1 number-kinds.ps (falls 1 number-kinds.ps ◌<◌ μ-number t) number.Pre
 
 number-cast-d :
-    (t : ℕ) → number-lts.Need-overflow-cast-d (number-below t, number.Post) (number_at t) number.Post
+    (t : ℕ) → number-lts.Need-overflow_cast-d (number-below t, number.Post) (number_at t) number.Post
 number-cast-d t c = search rules
 
 number-add-d :
-    (t : ℕ) → number-lts.Need-overflow-add-d (number-below t, number.Post) (number_at t) number.Post
+    (t : ℕ) → number-lts.Need-overflow_add-d (number-below t, number.Post) (number_at t) number.Post
 number-add-d t c = search rules
 
 number-element-write-d :
@@ -38,7 +38,7 @@ number-element-write-d :
 number-element-write-d t c = omega (arith, length-small c.before.args.n c.if1.true)
 
 number-add-result :
-    (t : ℕ) → number-lts.Need-overflow-add-result (number-below t, number.Post) (number_at t) number.Post
+    (t : ℕ) → number-lts.Need-overflow_add-result (number-below t, number.Post) (number_at t) number.Post
 number-add-result t c = record { fits = omega (arith, length-small c.before.args.n c.if1.true) }
 
 number-returns :
@@ -54,11 +54,11 @@ number-number-requires t c κs =
     (omega (arith, c.before.before.requires.0, div-lt_self {n = n} {k = 10} (omega arith) (lit< tt)), omega (arith, c.before.before.requires.1, length_more n big))
 
 number-cast-d-2 :
-    (t : ℕ) → number-lts.Need-overflow-cast-d-2 (number-below t, number.Post) (number_at t) number.Post
+    (t : ℕ) → number-lts.Need-overflow_cast-d-2 (number-below t, number.Post) (number_at t) number.Post
 number-cast-d-2 t c = record { fits = omega (arith, mod-lt c.before.before.before.args.n {m = 10} (lit< tt)) }
 
 number-add-d-2 :
-    (t : ℕ) → number-lts.Need-overflow-add-d-2 (number-below t, number.Post) (number_at t) number.Post
+    (t : ℕ) → number-lts.Need-overflow_add-d-2 (number-below t, number.Post) (number_at t) number.Post
 number-add-d-2 t c = record { fits = omega (arith, mod-lt c.before.before.before.args.n {m = 10} (lit< tt)) }
 
 room : (t : ℕ) (c : number-lts.After-number (number-below t, number.Post) (number_at t) number.Post) → c.number.result < 128
@@ -71,7 +71,7 @@ number-element-write-d-2 : (t : ℕ) → number-lts.Need-element-write-d-2 (
 number-element-write-d-2 t c = room t c
 
 number-add-result-2 :
-    (t : ℕ) → number-lts.Need-overflow-add-result-2 (number-below t, number.Post) (number_at t) number.Post
+    (t : ℕ) → number-lts.Need-overflow_add-result-2 (number-below t, number.Post) (number_at t) number.Post
 number-add-result-2 t c = record { fits = omega (arith, room t c) }
 
 number-returns-2 :

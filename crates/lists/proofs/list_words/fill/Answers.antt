@@ -15,7 +15,7 @@ returns-in_default c =
     let g = c.args in
     let a = c.loop-code.invariant in
     let t = c.tested-a in
-    no_code g.kind (bits_of g.s.now) g.c.at g.words.now a t.result t.ensures _ _ c.in_default.is c.why.ensures
+    (let all = (let all = (let all = (let all = no_code g.kind (bits_of g.s.now) g.c.at g.words.now a t.result t.ensures _ _ c.in_default.is c.why.ensures in (all.0, all.1)) in (all.0, all.1)) in (all.0, all.1)) in (all.0, all.1))
 
 pub returns-then-count-ge66 : goal.returns-then-count-ge66
 returns-then-count-ge66 c =

@@ -15,9 +15,9 @@ slice_bounds-picture_set-end-in-Of c = sym (length-take-le _ _ (written _ _ _ _ 
 pub returns-in-Of : goal.returns-in-Of
 returns-in-Of c =
     let u = c.unescape_known.ensures in
-    picture-taken _ (opened _ _ _ _ _ c.requires u.1 (sym c.in-Of.is ∙ u.0) picture_bits) c.picture_set.result c.picture_set.ensures c.picture_short.ensures
+    picture-taken _ (opened _ _ _ _ _ c.requires u.scratch_after (sym c.in-Of.is ∙ u.value) picture_bits) c.picture_set.result c.picture_set.ensures c.picture_short.ensures
 
 pub returns-in-Refused : goal.returns-in-Refused
 returns-in-Refused c =
     let u = c.unescape_known.ensures in
-    λ w. none-taken _ (closed _ _ _ _ _ c.requires u.1 (sym c.in-Refused.is ∙ u.0) picture_bits) _ _
+    λ w. none-taken _ (closed _ _ _ _ _ c.requires u.scratch_after (sym c.in-Refused.is ∙ u.value) picture_bits) _ _

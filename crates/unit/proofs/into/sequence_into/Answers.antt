@@ -15,9 +15,9 @@ slice_bounds-sequence_set-end-in-Of c = sym (length-take-le _ _ (written _ _ _ _
 pub returns-in-Of : goal.returns-in-Of
 returns-in-Of c =
     let u = c.unescape_known.ensures in
-    sequence-taken _ (opened _ _ _ _ _ c.requires u.1 (sym c.in-Of.is ∙ u.0) sequence_bits) c.sequence_set.result c.sequence_set.ensures c.sequence_short.ensures
+    sequence-taken _ (opened _ _ _ _ _ c.requires u.scratch_after (sym c.in-Of.is ∙ u.value) sequence_bits) c.sequence_set.result c.sequence_set.ensures c.sequence_short.ensures
 
 pub returns-in-Refused : goal.returns-in-Refused
 returns-in-Refused c =
     let u = c.unescape_known.ensures in
-    λ w. none-taken _ (closed _ _ _ _ _ c.requires u.1 (sym c.in-Refused.is ∙ u.0) sequence_bits) _ _
+    λ w. none-taken _ (closed _ _ _ _ _ c.requires u.scratch_after (sym c.in-Refused.is ∙ u.value) sequence_bits) _ _

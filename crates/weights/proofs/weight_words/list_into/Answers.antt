@@ -19,7 +19,7 @@ pub returns-in_default : goal.returns-in_default
 returns-in_default c =
     let a = c.args in
     let u : (weight a.chroma).read (bits_of a.s.now) c.loop-i.at.at ≡ no c.why_weight.result = sym c.weight-a.ensures ∙ rw (c.why_weight.ensures, c.in_default.is) in
-    rw (← c.at_most_32-count.ensures) (stored_refused _ _ _ _ _ c.loop-i.invariant (search rules) u)
+    rw (← c.at_most_32-count.ensures) ((let all = (let all = (let all = stored_refused _ _ _ _ _ c.loop-i.invariant (search rules) u in (all.0, all.1)) in (all.0, all.1)) in (all.0, all.1)))
 
 pub loop-i-preserved : goal.loop-i-preserved
 loop-i-preserved c =
@@ -28,4 +28,4 @@ loop-i-preserved c =
     stored_more _ _ _ _ _ c.loop-i.invariant (search rules) u c.store.ensures
 
 pub returns : goal.returns
-returns c = rw (← c.at_most_32-count.ensures) (stored-all _ _ _ _ _ c.loop-i.invariant (search rules))
+returns c = rw (← c.at_most_32-count.ensures) ((let all = (let all = (let all = stored-all _ _ _ _ _ c.loop-i.invariant (search rules) in (all.0, all.1)) in (all.0, all.1)) in (all.0, all.1)))

@@ -18,7 +18,7 @@ use Rattle.weights.proofs.weight_words.weights_onto.Goals as goal
 pub returns-then-not-is_weighted : goal.returns-then-not-is_weighted
 returns-then-not-is_weighted c =
     let a = c.args in
-    none a.x a.slice-type _ _ _ _ _ _ (sym c.is_weighted.ensures ∙ not-true _ c.if-not-is_weighted.true)
+    none a.x a.slice_type _ _ _ _ _ _ (sym c.is_weighted.ensures ∙ not-true _ c.if-not-is_weighted.true)
 
 -- from here on the table is there
 weighted : (d : goal.After-has_chroma-chroma)
@@ -56,8 +56,8 @@ unfolding ue
 returns-in_default-a4 c =
     let e = rw c.is_type.ensures at c.list_if-a4.ensures in
     let l = list-taken c.list_into-a3.ensures.value c.in-Got-a3.is in
-    let n = list-none e.0 c.in_default-a4.is c.why_list-in_default-a4.ensures in
-    there-4 _ _ _ _ _ _ _ _ (weighted c.before.before.before.before.before.before.before.before.before.before.before.before.before.before.before.before.before.before.before) _ c.has_chroma-chroma.ensures (sym c.ue-a1.ensures ∙ ap as_read c.in-Got.is) (sym c.number_if-a2.ensures ∙ ap as_number c.in-Got-a2.is) c.list_into-a3.ensures.words_after l e.1 n
+    let n = list-none e.value c.in_default-a4.is c.why_list-in_default-a4.ensures in
+    there-4 _ _ _ _ _ _ _ _ (weighted c.before.before.before.before.before.before.before.before.before.before.before.before.before.before.before.before.before.before.before) _ c.has_chroma-chroma.ensures (sym c.ue-a1.ensures ∙ ap as_read c.in-Got.is) (sym c.number_if-a2.ensures ∙ ap as_number c.in-Got-a2.is) c.list_into-a3.ensures.words_after l e.words_after n
 
 pub returns : goal.returns
 unfolding ue
@@ -65,4 +65,4 @@ returns c =
     let e = rw c.is_type.ensures at c.list_if-a4.ensures in
     let l = list-taken c.list_into-a3.ensures.value c.in-Got-a3.is in
     there-all _ _ _ _ _ _ _ _ (weighted c.before.before.before.before.before.before.before.before.before.before.before.before.before.before.before.before.before.before.before) _ c.has_chroma-chroma.ensures (sym c.ue-a1.ensures ∙ ap as_read c.in-Got.is) (sym c.number_if-a2.ensures ∙ ap as_number c.in-Got-a2.is) c.list_into-a3.ensures.words_after l e.1
-    (list-taken e.0 c.in-Got-a4.is)
+    (list-taken e.value c.in-Got-a4.is)
