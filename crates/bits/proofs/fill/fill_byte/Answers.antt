@@ -1,4 +1,4 @@
-use Prim.Native.Nat.{◌/◌, ◌<◌}
+use Prim.Native.Nat.{◌<◌}
 use Rattle.bits.proofs.Fills.{top-fits, made-lt, put-made}
 use borrow.Author.Rules.{rules}
 use Rattle.bits.proofs.fill.fill_byte.Goals as goal

@@ -1,17 +1,16 @@
 use mathlib.Core.Path.{◌≡◌, sym, ◌∙◌}
-use mathlib.Core.Bool.{Bool, true, false}
-use Prim.Native.Nat.{ℕ, ◌+◌, ◌*◌, ◌^◌, ◌≤◌}
+use mathlib.Core.Bool.{Bool}
+use Prim.Native.Nat.{ℕ, ◌^◌}
 use native.Mathlib.Omega.{arith}
 use borrow.Author.Tests.{ltb-true}
-use lib.Dec.{leb, ltb}
+use lib.Dec.{ltb}
 use lib.ListN.{length}
 use mir.Facts.{to_z-of_z}
 use mir.Syntax.{w64}
 use mir.Val.{to_z, of_z}
-use Rattle.bits.specs.Bits.{reach}
 use Rattle.bits.specs.Codes.{width_of, u_bits, u_good}
 use Rattle.bits.proofs.Digits.{length_digits}
-use Rattle.bits.proofs.Writes.{room_of, room_fits, ends-none, ends-short, ends-put}
+use Rattle.bits.proofs.Writes.{room_fits, ends-none, ends-short, ends-put}
 use Rattle.bits.proofs.put.put_bits.Goals as goal
 
 -- whether the value has bits

@@ -1,5 +1,4 @@
 use Rattle.bits.proofs.Writes.{ends-flag}
-use borrow.Author.Rules.{rules}
 use Rattle.bits.proofs.put.put_flag.Goals as goal
 
 pub returns : goal.returns

@@ -1,7 +1,5 @@
 use mathlib.Core.Path.{◌≡◌, ◌∙◌, ap}
-use Prim.Native.Nat.{◌<◌, ◌^◌}
 use borrow.Author.Tests.{le-ltb}
-use lib.IntN.{nat_abs}
 use mir.Syntax.{w32}
 use mir.Val.{SFits, to_z, of_z}
 use Rattle.bits.proofs.SeCodes.{has_code, no_code}

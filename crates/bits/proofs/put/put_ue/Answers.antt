@@ -48,7 +48,7 @@ returns-then-not-has_room c =
     -- a signed argument is handed over by its bits
     let back : to_z w64 (of_z w64 c.bytes_for.result) ≡ c.bytes_for.result = to_z-of_z {w = w64} (record { sfits = c.bytes_for.type_inv }) in
     let e = ends-short _ _ _ _ (2 * ue_zeros v + 1) _ _ (good v (omega arith)) (sym (length-ue v)) (test v a.c.at a.d.now _ false c.has_room.ensures c.if-not-has_room.true)
-        c.refuse-then-not-has_room.ensures (back ∙ c.bytes_for.ensures) in
+    c.refuse-then-not-has_room.ensures (back ∙ c.bytes_for.ensures) in
     record { value = e.0; d_after = e.1 }
 
 pub fill-requires : goal.fill-requires
@@ -80,5 +80,5 @@ returns c =
     let a = c.args in
     let v = a.v in
     let e = ends-put _ _ _ _ (2 * ue_zeros v + 1) _ (good v (omega arith)) (sym (length-ue v)) (test v a.c.at a.d.now _ true c.has_room.ensures c.if-not-has_room.false)
-        (rw c.fill.ensures at c.fill-2.ensures ∙ put-code a.d.now a.c.at v (omega arith)) in
+    (rw c.fill.ensures at c.fill-2.ensures ∙ put-code a.d.now a.c.at v (omega arith)) in
     record { value = e.0; d_after = e.1 }
