@@ -6,13 +6,9 @@ use mathlib.Core.Bool.{Bool, false}
 use Prim.Native.Nat.{ℕ, zero, suc, ◌+◌, ◌-◌, ◌*◌, ◌/◌, ◌%◌, ◌≤◌, ◌<◌}
 use native.Mathlib.Omega.{arith}
 use native.Mathlib.Nat.{add-zero}
-use native.Mathlib.Decide.{dec_lt}
 use native.Mathlib.Numerals.{add-one}
-use borrow.Author.Tests.{lt-ltb, le-ltb}
-use lib.ListN.{length, get_or, set, take, drop, replicate, length-append, length-set, length-take, take-append-drop}
-use lib.Dec.{ltb}
-use lib.Seq.{length-take-le, set-get_or, take_all, drop_at, take-append-le, take-append-add, drop-append-add, take-take}
-use Rattle.bits.specs.Refusals.{pick}
+use lib.ListN.{length, get_or, set, take, drop, replicate, length-set, length-take, take-append-drop}
+use lib.Seq.{length-take-le, set-get_or, drop_at, take-append-le, take-append-add, drop-append-add, take-take}
 use Rattle.bits.specs.Bits.{Bits, digits, bytes_bits, bits_of, reach}
 use Rattle.bits.specs.Put.{put_bit, put_bits}
 use Rattle.bits.proofs.Digits.{length_digits}

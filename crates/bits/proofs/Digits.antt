@@ -1,10 +1,10 @@
 -- Laws of binary digits and of the numbers they stand for.
 use mathlib.Core.Path.{◌≡◌, refl, sym, ap, ◌∙◌}
-use mathlib.Core.List.{List, [], ◌∷◌, ◌++◌}
-use mathlib.Core.Bool.{Bool, true, false}
-use Prim.Native.Nat.{ℕ, zero, suc, ◌+◌, ◌-◌, ◌*◌, ◌/◌, ◌%◌, ◌^◌, ◌≤◌, ◌<◌}
+use mathlib.Core.List.{[], ◌∷◌, ◌++◌}
+use mathlib.Core.Bool.{true, false}
+use Prim.Native.Nat.{ℕ, zero, suc, ◌+◌, ◌*◌, ◌/◌, ◌%◌, ◌^◌, ◌<◌}
 use native.Mathlib.Omega.{arith}
-use native.Mathlib.Nat.{add-zero, zero-add, add_comm, suc-add, add-mul, pow-suc, mod-lt, mod-eq_of_lt, div-eq_of_lt}
+use native.Mathlib.Nat.{zero-add, add_comm, suc-add, add-mul, pow-suc, mod-lt, mod-eq_of_lt, div-eq_of_lt}
 use native.Mathlib.Numerals.{one-add}
 use lib.Dec.{eqb, lit<}
 use lib.ListN.{length, length-append}

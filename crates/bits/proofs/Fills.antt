@@ -9,7 +9,6 @@ use lib.Arith.{digits_lt}
 use lib.Dec.{lit<}
 use lib.ListN.{length, get_or, set, take, drop, replicate, drop_of_length-le}
 use lib.Pow.{pow_pos, pow_mono, pow-add, shl_lt, shl_exact, shr_lt, shr-shr, split}
-use lib.Seq.{take_at}
 use Rattle.bits.specs.Bits.{Bits, digits, number_of}
 use Rattle.bits.specs.Put.{put_bits}
 use Rattle.bits.proofs.Fields.{take-digits}

@@ -13,10 +13,14 @@ use Rattle.bits.specs.Put.{put_bit, put_bits}
 use Rattle.bits.proofs.Digits.{length_digits, digits_number, number_lt}
 use Rattle.bits.proofs.Laid.{laid, length-laid, laid-laid}
 
+-- the buffer with one bit put
+abbrev pub with_bit : List ℕ → ℕ → Bool → List ℕ
+with_bit d at x = set d (at / 8) (put_bit (get_or d (at / 8) 0) (at % 8) x)
+
 pub length-put : (d : List ℕ) (at : ℕ) (l : Bits) → length (put_bits d at l) ≡ length d
 unfolding put_bits
 length-put d at [] = refl
-length-put d at (x ∷ l) = length-put _ (suc at) l ∙ length-set d _ _
+length-put d at (x ∷ l) = length-put (with_bit d at x) (suc at) l ∙ length-set d _ _
 
 -- one run of bits after another
 pub put-append : (d : List ℕ) (at : ℕ) (x y : Bits) → put_bits (put_bits d at x) (at + length x) y ≡ put_bits d at (x ++ y)
@@ -24,7 +28,7 @@ unfolding put_bits
 put-append d at [] y = ap (λ (n : ℕ). put_bits d n y) (add-zero at)
 put-append d at (b ∷ x) y =
     let e : at + suc (length x) ≡ suc at + length x = omega arith in
-    rw e (put-append _ (suc at) x y)
+    rw e (put-append (with_bit d at b) (suc at) x y)
 
 -- a byte as put_bit makes it
 pub bit-row : (b r : ℕ) (x : Bool) → r < 8 → take r (digits 8 b) ++ (x ∷ replicate (7 - r) false) ≡ laid (digits 8 b) r (x ∷ []) 8
@@ -78,7 +82,7 @@ put-in-byte d at (x ∷ (y ∷ l)) some inside h =
 pub put-bytes : (d : List ℕ) (at : ℕ) (l : Bits) → ((i : ℕ) → get_or d i 0 < 256) → (i : ℕ) → get_or (put_bits d at l) i 0 < 256
 unfolding put_bits
 put-bytes d at [] h i = h i
-put-bytes d at (x ∷ l) h i = put-bytes _ (suc at) l (λ j. go j (ℕ_discrete j (at / 8)) (dec_lt (at / 8) (length d))) i
+put-bytes d at (x ∷ l) h i = put-bytes (with_bit d at x) (suc at) l (λ j. go j (ℕ_discrete j (at / 8)) (dec_lt (at / 8) (length d))) i
   where
     c : ℕ
     c = put_bit (get_or d (at / 8) 0) (at % 8) x
@@ -94,16 +98,16 @@ unfolding put_bits
 take_put n d at [] h = refl
 take_put n d at (x ∷ l) h =
     let k : at / 8 < n = omega arith in
-    take_put n _ (suc at) l (omega arith)
+    take_put n (with_bit d at x) (suc at) l (omega arith)
     ∙ rw (take-set-lt n d (at / 8) _ k, get_or-take n d (at / 8) 0 k)
 
 -- the bytes before and after are untouched
 pub put-before : (k : ℕ) (d : List ℕ) (at : ℕ) (l : Bits) → 8 * k ≤ at → take k (put_bits d at l) ≡ take k d
 unfolding put_bits
 put-before k d at [] h = refl
-put-before k d at (x ∷ l) h = put-before k _ (suc at) l (omega arith) ∙ take-set-le k d (at / 8) _ (omega arith)
+put-before k d at (x ∷ l) h = put-before k (with_bit d at x) (suc at) l (omega arith) ∙ take-set-le k d (at / 8) _ (omega arith)
 
 pub put-after : (k : ℕ) (d : List ℕ) (at : ℕ) (l : Bits) → at + length l ≤ 8 * k → drop k (put_bits d at l) ≡ drop k d
 unfolding put_bits
 put-after k d at [] h = refl
-put-after k d at (x ∷ l) h = put-after k _ (suc at) l (omega arith) ∙ drop-set-lt k d (at / 8) _ (omega arith)
+put-after k d at (x ∷ l) h = put-after k (with_bit d at x) (suc at) l (omega arith) ∙ drop-set-lt k d (at / 8) _ (omega arith)

@@ -1,5 +1,5 @@
 -- The bits of bytes, and the numbers they stand for: the first bit is the highest (H.264, 7.2).
-use Rattle.std.specs.Prelude.{ℕ, zero, suc, ◌+◌, ◌*◌, ◌/◌, ◌%◌, ◌^◌, List, [], ◌∷◌, ◌++◌, Bool, true, false, eqb, length, take, drop}
+use Rattle.std.specs.Prelude.{ℕ, zero, suc, ◌+◌, ◌/◌, ◌%◌, ◌^◌, List, [], ◌∷◌, ◌++◌, Bool, eqb, length, take, drop}
 use Rattle.bits.specs.Refusals.{pick}
 
 abbrev pub Bits : Type 0

@@ -1,6 +1,6 @@
 -- Fixed-width fields and Exp-Golomb codes at a bit place: what reading finds (H.264, 7.2 and 9.1; docs/RULES.md, 'Codes'), the bits of a value, and which
 -- values have bits.
-use Rattle.std.specs.Prelude.{ℕ, zero, suc, ◌+◌, ◌-◌, ◌*◌, ◌/◌, ◌%◌, ◌^◌, List, [], ◌∷◌, ◌++◌, Bool, true, false, eqb, leb, ltb, ℤ, pos, negsuc, neg_ℤ, nat_abs, length, take, drop, replicate}
+use Rattle.std.specs.Prelude.{ℕ, zero, suc, ◌+◌, ◌-◌, ◌*◌, ◌/◌, ◌%◌, ◌^◌, [], ◌∷◌, ◌++◌, Bool, true, false, eqb, leb, ltb, ℤ, pos, negsuc, neg_ℤ, nat_abs, length, take, drop, replicate}
 use Rattle.std.specs.Int.Count.{count_leading_zeros}
 use Rattle.bits.specs.Refusals.{Res, got, no, bind, pick, refusal_at, ran_out, too_many_zeros}
 use Rattle.bits.specs.Bits.{Bits, digits, number_of, field}

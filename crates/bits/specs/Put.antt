@@ -1,5 +1,5 @@
 -- Writing bits at a place of a buffer: what is answered, and what the buffer then holds.
-use Rattle.std.specs.Prelude.{ℕ, zero, suc, ◌+◌, ◌-◌, ◌/◌, ◌%◌, List, [], ◌∷◌, ◌++◌, Bool, true, false, leb, pos, length, get_or, take, set, replicate}
+use Rattle.std.specs.Prelude.{ℕ, suc, ◌+◌, ◌-◌, ◌/◌, ◌%◌, List, [], ◌∷◌, ◌++◌, Bool, false, leb, pos, length, get_or, take, set, replicate}
 use Rattle.bits.specs.declared.put.Wrote.{Wrote}
 use Rattle.bits.specs.declared.put.Wrote.TheVariants.{At, Refused}
 use Rattle.bits.specs.Refusals.{pick, refusal, no_bits, buffer_too_short}

@@ -56,7 +56,7 @@ pub fn read_se<'a>(r: Reader<'a>) -> ReadSigned
     Cursor { at: r.at }.se(r.body)
 }
 
-// Plain parameters above the reader: whoever calls this needs no walk. The first code of a body.
+// Plain parameters above the reader: the first code of a body.
 pub fn first_ue(s: &[u8]) -> Read
     ensures { as_read result ≡ ue_at (bits_of s.now) 0 }
 {

@@ -1,10 +1,10 @@
 use borrow.Author.Rules.{rules}
 use native.Mathlib.Nat.{sub-add_cancel}
 use native.Mathlib.Omega.{arith}
-use mathlib.Core.Path.{◌≡◌, refl}
-use Prim.Native.Nat.{◌-◌, ◌≤◌}
+use mathlib.Core.Path.{refl}
+use Prim.Native.Nat.{◌-◌}
 use lib.ListN.{length}
-use lib.Seq.{paste, paste-zero}
+use lib.Seq.{paste-zero}
 use Rattle.bits.proofs.Copies.{paste-over}
 use Rattle.bits.proofs.copy.copy_all.Goals as goal
 

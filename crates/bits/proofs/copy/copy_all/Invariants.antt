@@ -1,11 +1,7 @@
-use borrow.Author.Rules.{rules}
-use native.Mathlib.Nat.{sub-add_cancel}
-use native.Mathlib.Omega.{arith}
-use mathlib.Core.Path.{◌≡◌, refl}
+use mathlib.Core.Path.{◌≡◌}
 use Prim.Native.Nat.{◌-◌, ◌≤◌}
 use lib.ListN.{length}
-use lib.Seq.{paste, paste-zero}
-use Rattle.bits.proofs.Copies.{paste-over}
+use lib.Seq.{paste}
 use Rattle.bits.proofs.copy.copy_all.Given as goal
 
 abbrev pub invariant-loop-j : goal.invariant-loop-j

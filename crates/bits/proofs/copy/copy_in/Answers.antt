@@ -1,12 +1,9 @@
-use borrow.Author.Rules.{rules}
 use borrow.Author.Tests.{le-leb, lt-leb}
-use mathlib.Core.Path.{◌≡◌, refl, ◌∙◌}
-use mathlib.Core.Bool.{true, false}
+use mathlib.Core.Path.{refl}
 use Prim.Native.Nat.{◌+◌, ◌≤◌, ◌<◌}
 use native.Mathlib.Omega.{arith}
-use lib.Dec.{leb}
 use lib.ListN.{length}
-use Rattle.bits.specs.Copy.{has_room, copied}
+use Rattle.bits.specs.Copy.{copied}
 use Rattle.bits.proofs.copy.copy_in.Goals as goal
 
 pub returns-then-m-n : goal.returns-then-m-n

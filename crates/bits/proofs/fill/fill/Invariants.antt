@@ -1,14 +1,7 @@
-use borrow.Author.Rules.{rules}
-use native.Mathlib.Omega.{arith}
-use mathlib.Core.Path.{◌≡◌, ap, ◌∙◌}
+use mathlib.Core.Path.{◌≡◌}
 use Prim.Native.Nat.{◌+◌, ◌-◌, ◌/◌, ◌^◌, ◌≤◌}
-use native.Mathlib.Nat.{mod-lt}
-use lib.ListN.{length}
-use lib.Pow.{pow_pos}
 use Rattle.bits.specs.Bits.{digits}
 use Rattle.bits.specs.Put.{put_bits}
-use Rattle.bits.proofs.Fills.{fill_start, fill-turn, fill-all}
-use Rattle.bits.proofs.Puts.{length-put}
 use Rattle.bits.proofs.fill.fill.Given as goal
 
 abbrev pub invariant-loop-left : goal.invariant-loop-left

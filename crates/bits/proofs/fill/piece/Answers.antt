@@ -1,7 +1,6 @@
 use native.Mathlib.Omega.{arith}
 use lib.Pow.{pow_pos}
 use Rattle.bits.proofs.Fills.{one_shl}
-use borrow.Author.Rules.{rules}
 use Rattle.bits.proofs.fill.piece.Goals as goal
 
 pub nonzero_rem-result : goal.nonzero_rem-result

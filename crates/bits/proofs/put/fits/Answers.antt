@@ -1,6 +1,5 @@
 use native.Mathlib.Omega.{arith}
 use Rattle.bits.proofs.Fills.{one_shl}
-use borrow.Author.Rules.{rules}
 use Rattle.bits.proofs.put.fits.Goals as goal
 
 pub returns : goal.returns

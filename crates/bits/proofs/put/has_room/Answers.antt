@@ -2,7 +2,6 @@ use mathlib.Core.Path.{◌≡◌, sym, ◌∙◌}
 use Prim.Native.Nat.{ℕ, ◌+◌, ◌-◌, ◌*◌, ◌≤◌, ◌<◌}
 use native.Mathlib.Omega.{arith}
 use native.Mathlib.Decide.{dec_lt, dec_le}
-use borrow.Author.Rules.{rules}
 use borrow.Author.Tests.{lt-ltb, le-ltb, le-leb, lt-leb}
 use lib.Dec.{ltb, leb}
 use Rattle.bits.specs.Refusals.{pick}
@@ -33,16 +32,17 @@ smaller r n m a b f = go (dec_lt n m)
         out (yes k) = absurd (omega (arith, f k))
         out (no k) = omega arith
 
-whole : (c : goal.After-reached-end) → c.reached-end.result ≡ pick (ltb c.args.len reach) c.args.len reach
-whole c = let e = c.reached-end.ensures in smaller c.reached-end.result c.args.len reach e.0 e.1 e.2
-
 pub returns-then-end-at : goal.returns-then-end-at
 returns-then-end-at c =
     let a = c.args in
-    sym (rw (← whole c.before) (lt-leb (a.at + a.n) (8 * c.reached-end.result) (omega arith)))
+    let e = c.reached-end.ensures in
+    let whole : c.reached-end.result ≡ pick (ltb a.len reach) a.len reach = smaller c.reached-end.result a.len reach e.0 e.1 e.2 in
+    sym (rw (← whole) (lt-leb (a.at + a.n) (8 * c.reached-end.result) (omega arith)))
 
 pub returns : goal.returns
 returns c =
     let a = c.args in
+    let e = c.reached-end.ensures in
+    let whole : c.reached-end.result ≡ pick (ltb a.len reach) a.len reach = smaller c.reached-end.result a.len reach e.0 e.1 e.2 in
     let r = c.reached-end.result in
-    rw (← whole c.before) (same_test a.n (r * 8 - a.at) (a.at + a.n) (8 * r) (λ h. omega arith) (λ h. omega arith))
+    rw (← whole) (same_test a.n (r * 8 - a.at) (a.at + a.n) (8 * r) (λ h. omega arith) (λ h. omega arith))

@@ -6,7 +6,6 @@ use lib.Pow.{shr_le}
 use Rattle.bits.specs.Windows.{bits_at}
 use Rattle.bits.proofs.Windows.{front, under}
 use Rattle.bits.proofs.Reading.{fixed_in, fixed_out}
-use borrow.Author.Rules.{rules}
 use Rattle.bits.proofs.read.fixed_in.Goals as goal
 
 -- the window's first half

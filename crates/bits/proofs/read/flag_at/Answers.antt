@@ -2,7 +2,6 @@ use native.Mathlib.Omega.{arith}
 use Rattle.bits.specs.Windows.{bit_at}
 use Rattle.bits.proofs.Windows.{bits-one}
 use Rattle.bits.proofs.Reading.{fixed_in, fixed_out}
-use borrow.Author.Rules.{rules}
 use Rattle.bits.proofs.read.flag_at.Goals as goal
 
 pub returns-then-s-i : goal.returns-then-s-i

@@ -1,4 +1,3 @@
-use borrow.Author.Rules.{rules}
 use Rattle.bits.proofs.read.last_bits.Goals as goal
 
 pub returns-then-code : goal.returns-then-code

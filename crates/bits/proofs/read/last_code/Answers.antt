@@ -2,7 +2,6 @@ use native.Mathlib.Omega.{arith}
 use mathlib.Core.Path.{sym}
 use lib.Count.{leading_le}
 use Rattle.bits.proofs.Reading.{last-pos, ue-last, ue-last-short}
-use borrow.Author.Rules.{rules}
 use Rattle.bits.proofs.read.last_code.Goals as goal
 
 pub overflow_cast-size : goal.overflow_cast-size

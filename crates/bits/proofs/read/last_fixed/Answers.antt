@@ -5,7 +5,6 @@ use native.Mathlib.Nat.{lt_of_le_of_lt}
 use lib.Pow.{shr_le}
 use Rattle.bits.proofs.Windows.{front}
 use Rattle.bits.proofs.Reading.{fixed_in, fixed_out}
-use borrow.Author.Rules.{rules}
 use Rattle.bits.proofs.read.last_fixed.Goals as goal
 
 pub returns-then-left-n : goal.returns-then-left-n

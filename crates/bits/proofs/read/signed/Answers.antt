@@ -8,7 +8,6 @@ use mir.Syntax.{w32}
 use mir.Val.{SFits, to_z}
 use mir.Facts.{to_z_pos, to_z-of_z}
 use Rattle.bits.specs.Codes.{se_of}
-use borrow.Author.Rules.{rules}
 use Rattle.bits.proofs.read.signed.Goals as goal
 
 -- the machine's 0 - n is -n, which fits

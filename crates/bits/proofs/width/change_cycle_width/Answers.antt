@@ -3,7 +3,6 @@ use borrow.Author.Tests.{eq-eqb}
 use lib.Count.{leading_le}
 use Rattle.bits.specs.Width.{change_cycle_width}
 use Rattle.bits.proofs.Widths.{width-leading}
-use borrow.Author.Rules.{rules}
 use Rattle.bits.proofs.width.change_cycle_width.Goals as goal
 
 pub returns-then-rate-eq0 : goal.returns-then-rate-eq0

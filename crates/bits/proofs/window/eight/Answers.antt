@@ -3,7 +3,6 @@ use mathlib.Core.Path.{refl}
 use mathlib.Core.List.{List}
 use Prim.Native.Nat.{ℕ, ◌*◌}
 use Rattle.bits.proofs.Windows.{or-first, or-next, or-last}
-use borrow.Author.Rules.{rules}
 use Rattle.bits.proofs.window.eight.Goals as goal
 
 pub returns : goal.returns

@@ -1,7 +1,7 @@
 use borrow.Author.Rules.{rules}
 use native.Mathlib.Omega.{arith}
 use mathlib.Core.Path.{◌≡◌, refl}
-use Prim.Native.Nat.{◌≤◌, ◌*◌, ◌-◌}
+use Prim.Native.Nat.{◌*◌}
 use Rattle.bits.specs.Windows.{bits_at}
 use Rattle.bits.proofs.Windows.{joined, under, under-le}
 use Rattle.bits.proofs.window.eight_or_zeros.Goals as goal

@@ -1,9 +1,6 @@
-use borrow.Author.Rules.{rules}
-use native.Mathlib.Omega.{arith}
-use mathlib.Core.Path.{◌≡◌, refl}
+use mathlib.Core.Path.{◌≡◌}
 use Prim.Native.Nat.{◌≤◌, ◌*◌, ◌-◌}
 use Rattle.bits.specs.Windows.{bits_at}
-use Rattle.bits.proofs.Windows.{joined, under, under-le}
 use Rattle.bits.proofs.window.eight_or_zeros.Given as goal
 
 abbrev pub invariant-loop-j : goal.invariant-loop-j

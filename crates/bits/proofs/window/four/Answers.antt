@@ -5,7 +5,6 @@ use Prim.Native.Nat.{ℕ, ◌*◌, ◌^◌, ◌%◌}
 use lib.Bits.{bit_or}
 use Rattle.bits.specs.Windows.{bits_at}
 use Rattle.bits.proofs.Windows.{or-first, or-next, or-last, under}
-use borrow.Author.Rules.{rules}
 use Rattle.bits.proofs.window.four.Goals as goal
 
 -- the four bytes side by side

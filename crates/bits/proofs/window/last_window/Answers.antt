@@ -1,4 +1,3 @@
-use borrow.Author.Rules.{rules}
 use native.Mathlib.Omega.{arith}
 use Rattle.bits.proofs.Windows.{bits-late}
 use Rattle.bits.proofs.window.last_window.Goals as goal

@@ -1,4 +1,3 @@
-use borrow.Author.Rules.{rules}
 use mathlib.Core.Path.{sym, ◌∙◌}
 use Rattle.bits.proofs.Windows.{bits-byte}
 use Rattle.bits.proofs.window.one.Goals as goal

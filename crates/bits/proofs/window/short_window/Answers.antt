@@ -1,6 +1,5 @@
 use native.Mathlib.Omega.{arith}
 use Rattle.bits.proofs.Windows.{short-law}
-use borrow.Author.Rules.{rules}
 use Rattle.bits.proofs.window.short_window.Goals as goal
 
 pub returns : goal.returns

@@ -1,7 +1,6 @@
 use mathlib.Core.Path.{sym}
 use lib.Seq.{length-take-le}
 use Rattle.bits.proofs.Slices.{take-reached}
-use borrow.Author.Rules.{rules}
 use Rattle.bits.proofs.window.within.Goals as goal
 
 pub slice_bounds-result-end : goal.slice_bounds-result-end

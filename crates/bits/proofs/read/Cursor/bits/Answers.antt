@@ -6,7 +6,6 @@ use lib.Pow.{shr_le}
 use Rattle.bits.specs.Bits.{bits_of}
 use Rattle.bits.proofs.Slices.{reached-le}
 use Rattle.bits.proofs.Reading.{fixed-near}
-use borrow.Author.Rules.{rules}
 use Rattle.bits.proofs.read.Cursor.bits.Goals as goal
 
 pub overflow_cast-result-then-at-reached : goal.overflow_cast-result-then-at-reached

@@ -1,7 +1,6 @@
 use mathlib.Core.Path.{◌∙◌}
 use Rattle.bits.specs.Bits.{bits_of}
 use Rattle.bits.proofs.Slices.{reached-le}
-use borrow.Author.Rules.{rules}
 use Rattle.bits.proofs.read.Cursor.flag.Goals as goal
 
 pub flag_at-requires : goal.flag_at-requires

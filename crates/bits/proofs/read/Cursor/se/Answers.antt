@@ -3,7 +3,6 @@ use mir.Syntax.{w32}
 use mir.Facts.{to_z-of_z}
 use Rattle.bits.specs.Answers.{as_read}
 use Rattle.bits.proofs.Reading.{ue-lt}
-use borrow.Author.Rules.{rules}
 use Rattle.bits.proofs.read.Cursor.se.Goals as goal
 
 pub signed-requires : goal.signed-requires

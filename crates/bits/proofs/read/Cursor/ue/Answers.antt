@@ -5,7 +5,6 @@ use lib.Count.{count_leading_zeros}
 use Rattle.bits.specs.Bits.{bits_of}
 use Rattle.bits.proofs.Slices.{reached-le}
 use Rattle.bits.proofs.Reading.{few, code-pos, ue-near}
-use borrow.Author.Rules.{rules}
 use Rattle.bits.proofs.read.Cursor.ue.Goals as goal
 
 zeros : (c : goal.Then-w-ge524288) → count_leading_zeros 32 c.short_window-w.result < 13

@@ -1,3 +1,0 @@
-pub mod Walking
-pub mod Held
-pub mod Through
