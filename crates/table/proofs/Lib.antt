@@ -7,11 +7,3 @@ pub mod Arrays
 pub mod Entries
 pub mod Renewed
 pub mod Widths
-pub mod Walking
-pub mod Fields
-pub mod Values
-pub mod LookShell
-pub mod PairShell
-pub mod BothShell
-pub mod BesideShell
-pub mod WithShell

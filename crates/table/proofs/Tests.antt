@@ -1,9 +1,9 @@
 -- Tests as the code makes them, one at a time, and as the definitions write them, all at once.
 use mathlib.Core.Path.{◌≡◌, refl, sym, ◌∙◌}
-use mathlib.Core.Bool.{Bool, true, false, not, ◌&&◌, and-true, true≢false}
+use mathlib.Core.Bool.{Bool, true, false, ◌&&◌, and-true, true≢false}
 use mathlib.Core.List.{List, [], ◌∷◌}
 use Prim.Native.Nat.{ℕ, zero, suc}
-use borrow.Author.Tests.{not-true, not-false, eqb-true, eqb-false}
+use borrow.Author.Tests.{eqb-true, eqb-false}
 use lib.Dec.{eqb}
 use lib.ListN.{get_or}
 use Rattle.table.specs.Sets.{all}
@@ -51,11 +51,11 @@ each (false ∷ l) h = absurd (true≢false (sym h))
 
 -- ---- a test by a call: what r answers is the test b
 
-pub refuted : {b r : Bool} → r ≡ b → not r ≡ true → b ≡ false
-refuted e h = sym e ∙ not-true _ h
+pub refuted : {b r : Bool} → r ≡ b → r ≡ false → b ≡ false
+refuted e h = sym e ∙ h
 
-pub held : {b r : Bool} → r ≡ b → not r ≡ false → b ≡ true
-held e h = sym e ∙ not-false _ h
+pub held : {b r : Bool} → r ≡ b → r ≡ true → b ≡ true
+held e h = sym e ∙ h
 
 -- tests joined by calls
 pub two : {a b x y r : Bool} → r ≡ x && y → x ≡ a → y ≡ b → all (a ∷ b ∷ []) ≡ r

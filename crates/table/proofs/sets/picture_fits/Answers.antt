@@ -14,16 +14,14 @@ overflow_cast-p c = let f : SFits w32 c.args.p.pic_init_qp_minus26 = search rule
 pub overflow_cast-p-2 : goal.overflow_cast-p-2
 overflow_cast-p-2 c = let f : SFits w32 c.args.p.pic_init_qs_minus26 = search rules in wide_fits f
 
--- the signed tests, on the fields themselves
-qp-told : (c : goal.After-within_signed) → c.within_signed.result ≡ between_z (negsuc 61) (pos 25) c.args.p.pic_init_qp_minus26
-qp-told c = let f : SFits w32 c.args.p.pic_init_qp_minus26 = search rules in rw (wide_is f) at c.within_signed.ensures
-
-qs-told : (c : goal.After-within_signed-2) → c.within_signed-2.result ≡ between_z (negsuc 25) (pos 25) c.args.p.pic_init_qs_minus26
-qs-told c = let f : SFits w32 c.args.p.pic_init_qs_minus26 = search rules in rw (wide_is f) at c.within_signed-2.ensures
-
 pub returns : goal.returns
 unfolding picture_fits all
 returns c =
+    let fp : SFits w32 c.args.p.pic_init_qp_minus26 = search rules in
+    let fs : SFits w32 c.args.p.pic_init_qs_minus26 = search rules in
+    -- the signed tests, on the fields themselves
+    let qp : c.within_signed.result ≡ between_z (negsuc 61) (pos 25) c.args.p.pic_init_qp_minus26 = rw (wide_is fp) at c.within_signed.ensures in
+    let qs : c.within_signed-2.result ≡ between_z (negsuc 25) (pos 25) c.args.p.pic_init_qs_minus26 = rw (wide_is fs) at c.within_signed-2.ensures in
     rw (
       c.both-6.ensures,
       c.both-5.ensures,
@@ -35,8 +33,8 @@ returns c =
       c.within-2.ensures,
       c.within-3.ensures,
       c.within-4.ensures,
-      qp-told c.before.before.before.before.before.before.before.before.before.before,
-      qs-told c.before.before.before.before.before.before.before,
+      qp,
+      qs,
       c.within-5.ensures,
       and-true (between 0 16777216 c.args.p.slice_group_change_rate),
     )
