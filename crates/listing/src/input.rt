@@ -3,7 +3,7 @@
 ghost use Rattle.std.specs.Prelude.{◌≡◌, ◌≤◌, length};
 ghost use Rattle.listing.specs.Input.{Within};
 
-use libc::STDIN_FILENO;
+use std::io::Read;
 
 // How many bytes there are, or that a read failed.
 #[derive(Clone, Copy)]
@@ -20,16 +20,14 @@ pub(crate) fn room() -> [u8; 65537]
 }
 
 // To the front of `d`, until it is full or the input ends.
-pub(crate) fn read_all(d: &mut [u8]) -> Input
+pub(crate) fn read_all(from: &mut impl Read, d: &mut [u8]) -> Input
     ensures { Within (length d.new) result }
 {
     let mut done: usize = 0;
     while done < d.len() {
-        let got = libc::read(STDIN_FILENO, &mut d[done..]);
-        if got < 0 {
+        let Ok(more) = from.read(&mut d[done..]) else {
             return Input::Failed;
-        }
-        let more = io::count(got, &d[done..]);
+        };
         if more == 0 {
             return Input::Bytes(done);
         }

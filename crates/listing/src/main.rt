@@ -4,16 +4,12 @@
 
 mod input; // all of standard input
 
-use libc::{STDERR_FILENO, STDOUT_FILENO};
 use list_steps::sample::sample_table;
 use list_steps::step::{list_step, start};
-
-fn complain(words: &[u8]) {
-    io::write_all(STDERR_FILENO, words);
-}
+use std::io;
 
 // Line after line, until there are no more; false where one cannot be written.
-fn print(recording: &[u8], scratch: &mut [u8]) -> bool {
+fn print(rt: &impl Print, recording: &[u8], scratch: &mut [u8]) -> bool {
     let t = sample_table();
     let mut sequences = t.sequences;
     let mut pictures = t.pictures;
@@ -29,7 +25,7 @@ fn print(recording: &[u8], scratch: &mut [u8]) -> bool {
             &mut line,
         );
         let n = l.length;
-        if !io::write_all(STDOUT_FILENO, &line[..n]) {
+        if rt.write_all(&line[..n]).is_err() {
             return false;
         }
         if !l.more {
@@ -39,15 +35,15 @@ fn print(recording: &[u8], scratch: &mut [u8]) -> bool {
     }
 }
 
-fn main() {
+fn main(rt: HostRuntime) -> io::Result<()> {
     let mut bytes = input::room();
-    let mut scratch = io::large_buffer();
-    let got = input::read_all(&mut bytes);
+    let mut scratch = [0u8; 65536];
+    let got = input::read_all(&mut rt.reader(), &mut bytes);
     let input::Input::Bytes(n) = got else {
-        complain(b"listing: standard input cannot be read\n");
-        return;
+        return eprintln!(rt; "listing: standard input cannot be read");
     };
-    if !print(&bytes[..n], &mut scratch) {
-        complain(b"listing: standard output cannot be written\n");
+    if !print(&rt, &bytes[..n], &mut scratch) {
+        return eprintln!(rt; "listing: standard output cannot be written");
     }
+    Ok(())
 }

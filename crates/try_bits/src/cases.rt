@@ -3,6 +3,7 @@
 // 12 a body. At most 16 bytes are given. A place with a sign counts back from the last that there is.
 use super::numbers::{Number, number_at};
 use super::{puts, reads, show, units};
+use std::io;
 
 const LAST: usize = 18446744073709551615;
 
@@ -19,13 +20,14 @@ fn name_end(s: &[u8], from: usize) -> usize {
     i
 }
 
-fn name(s: &[u8], from: usize, to: usize) {
+fn name(rt: &impl Print, s: &[u8], from: usize, to: usize) -> io::Result<()> {
     if from <= to {
         if to <= s.len() {
-            show::text(&s[from..to]);
-            show::text(b" ");
+            show::text(rt, &s[from..to])?;
+            show::text(rt, b" ")?;
         }
     }
+    Ok(())
 }
 
 fn place(a: Number) -> usize {
@@ -55,28 +57,37 @@ fn bytes(d: &mut [u8], s: &[u8], from: usize, n: u32) -> usize {
     at
 }
 
-fn answer(kind: u32, at: usize, n: u32, v: Number, s: &[u8]) {
+fn answer(rt: &impl Print, kind: u32, at: usize, n: u32, v: Number, s: &[u8]) -> io::Result<()> {
     if kind < 4 {
-        reads::answer(kind, at, n, s);
+        reads::answer(rt, kind, at, n, s)?;
     } else if kind < 9 {
-        puts::answer(kind, at, n, v);
+        puts::answer(rt, kind, at, n, v)?;
     } else {
-        units::answer(kind, at, n, s);
+        units::answer(rt, kind, at, n, s)?;
     }
-    show::text(b"\n");
+    show::text(rt, b"\n")
 }
 
 // The answer to what is asked of the first bytes of d.
-fn asked(kind: u32, at: usize, n: u32, v: Number, d: &[u8], count: usize) {
+fn asked(
+    rt: &impl Print,
+    kind: u32,
+    at: usize,
+    n: u32,
+    v: Number,
+    d: &[u8],
+    count: usize,
+) -> io::Result<()> {
     if count <= d.len() {
-        answer(kind, at, n, v, &d[..count]);
+        answer(rt, kind, at, n, v, &d[..count])?;
     }
+    Ok(())
 }
 
 // A case and its line. The place after it.
-fn case(s: &[u8], from: usize) -> usize {
+fn case(rt: &impl Print, s: &[u8], from: usize) -> io::Result<usize> {
     let to = name_end(s, from);
-    name(s, from, to);
+    name(rt, s, from, to)?;
     let kind = number_at(s, to);
     let at = number_at(s, kind.next);
     let n = number_at(s, at.next);
@@ -84,16 +95,17 @@ fn case(s: &[u8], from: usize) -> usize {
     let count = number_at(s, v.next);
     let mut d = [0u8; 16];
     let next = bytes(&mut d, s, count.next, count.size);
-    asked(kind.size, place(at), n.size, v, &d, count.size as usize);
-    next
+    asked(rt, kind.size, place(at), n.size, v, &d, count.size as usize)?;
+    Ok(next)
 }
 
-pub(crate) fn all(s: &[u8]) {
+pub(crate) fn all(rt: &impl Print, s: &[u8]) -> io::Result<()> {
     let n = number_at(s, 0);
     let mut at = n.next;
     let mut i: u32 = 0;
     while i < n.size {
-        at = case(s, at);
+        at = case(rt, s, at)?;
         i += 1;
     }
+    Ok(())
 }

@@ -9,10 +9,13 @@ mod puts; // writing at its limits
 mod units; // first bytes, extensions, bodies
 mod cases; // the input: one case after another
 
-use libc::STDIN_FILENO;
+use std::io::{self, Read};
 
-fn main() {
-    let mut s = io::large_buffer();
-    io::read_full(STDIN_FILENO, &mut s);
-    cases::all(&s);
+// More than the input has.
+const MOST: u64 = 65536;
+
+fn main(rt: HostRuntime) -> io::Result<()> {
+    let mut s = Vec::new(rt.alloc());
+    rt.reader().take(MOST).read_to_end(&mut s)?;
+    cases::all(&rt, &s)
 }

@@ -2,100 +2,101 @@
 use bits::put::Wrote;
 use bits::read::{Read, ReadFlag, ReadSigned};
 use bits::refusals::Refusal;
-use libc::STDOUT_FILENO;
+use std::io;
 
-pub(crate) fn text(t: &[u8]) {
-    io::write_all(STDOUT_FILENO, t);
+pub(crate) fn text(rt: &impl Print, t: &[u8]) -> io::Result<()> {
+    rt.write_all(t)
 }
 
-pub(crate) fn number(n: u64) {
-    io::print_decimal(STDOUT_FILENO, n);
+pub(crate) fn number(rt: &impl Print, n: u64) -> io::Result<()> {
+    rt.print(n)
 }
 
-pub(crate) fn signed(n: i64) {
+pub(crate) fn signed(rt: &impl Print, n: i64) -> io::Result<()> {
     if n < 0 {
-        text(b"-");
-        number((-(n + 1)) as u64 + 1);
+        text(rt, b"-")?;
+        number(rt, (-(n + 1)) as u64 + 1)
     } else {
-        number(n as u64);
+        number(rt, n as u64)
     }
 }
 
-pub(crate) fn bytes(d: &[u8]) {
+pub(crate) fn bytes(rt: &impl Print, d: &[u8]) -> io::Result<()> {
     let mut i = 0;
     while i < d.len() {
-        byte(d[i]);
+        byte(rt, d[i])?;
         i += 1;
     }
+    Ok(())
 }
 
-fn byte(b: u8) {
-    text(b" ");
-    io::print_hex(STDOUT_FILENO, b as u64, 2);
+fn byte(rt: &impl Print, b: u8) -> io::Result<()> {
+    print!(rt; " {b:02x}")
 }
 
 // The place of a refusal, if it has one.
-fn place(r: Refusal) {
+fn place(rt: &impl Print, r: Refusal) -> io::Result<()> {
     if r.has_bit {
-        text(b" bit=");
-        number(r.bit as u64);
+        text(rt, b" bit=")?;
+        number(rt, r.bit as u64)?;
     }
+    Ok(())
 }
 
-pub(crate) fn refusal(r: Refusal) {
-    text(b"refused ");
-    number(r.number as u64);
-    text(b" value=");
-    signed(r.value);
-    place(r);
+pub(crate) fn refusal(rt: &impl Print, r: Refusal) -> io::Result<()> {
+    text(rt, b"refused ")?;
+    number(rt, r.number as u64)?;
+    text(rt, b" value=")?;
+    signed(rt, r.value)?;
+    place(rt, r)
 }
 
-pub(crate) fn read(a: Read) {
+pub(crate) fn read(rt: &impl Print, a: Read) -> io::Result<()> {
     match a {
         Read::Got(v, c) => {
-            number(v as u64);
-            text(b" next=");
-            number(c.at as u64);
+            number(rt, v as u64)?;
+            text(rt, b" next=")?;
+            number(rt, c.at as u64)
         }
-        Read::Refused(r) => refusal(r),
+        Read::Refused(r) => refusal(rt, r),
     }
 }
 
-pub(crate) fn read_signed(a: ReadSigned) {
+pub(crate) fn read_signed(rt: &impl Print, a: ReadSigned) -> io::Result<()> {
     match a {
         ReadSigned::Got(v, c) => {
-            signed(v as i64);
-            text(b" next=");
-            number(c.at as u64);
+            signed(rt, v as i64)?;
+            text(rt, b" next=")?;
+            number(rt, c.at as u64)
         }
-        ReadSigned::Refused(r) => refusal(r),
+        ReadSigned::Refused(r) => refusal(rt, r),
     }
 }
 
-pub(crate) fn read_flag(a: ReadFlag) {
+pub(crate) fn read_flag(rt: &impl Print, a: ReadFlag) -> io::Result<()> {
     match a {
         ReadFlag::Got(v, c) => {
             if v {
-                text(b"set");
+                text(rt, b"set")?;
             } else {
-                text(b"clear");
+                text(rt, b"clear")?;
             }
-            text(b" next=");
-            number(c.at as u64);
+            text(rt, b" next=")?;
+            number(rt, c.at as u64)
         }
-        ReadFlag::Refused(r) => refusal(r),
+        ReadFlag::Refused(r) => refusal(rt, r),
     }
 }
 
 // A write's answer, and the buffer after it.
-pub(crate) fn wrote(a: Wrote, d: &[u8]) {
+pub(crate) fn wrote(rt: &impl Print, a: Wrote, d: &[u8]) -> io::Result<()> {
     match a {
         Wrote::At(c) => {
-            text(b"next=");
-            number(c.at as u64);
+            text(rt, b"next=")?;
+            number(rt, c.at as u64)?;
         }
-        Wrote::Refused(r) => refusal(r),
+        Wrote::Refused(r) => refusal(rt, r)?,
     }
-    text(b" buffer");
-    bytes(d);
+    text(rt, b" buffer")?;
+    bytes(rt, d)
 }

@@ -6,105 +6,110 @@ use nal::extension::{
 };
 use nal::header::{NalHeader, NalHeaderRead, header_of};
 use nal::unit_type::{UnitType, UnitTypeForId};
+use std::io;
 
-fn flag(name: &[u8], b: bool) {
-    show::text(name);
-    show::number(if b { 1 } else { 0 });
+fn flag(rt: &impl Print, name: &[u8], b: bool) -> io::Result<()> {
+    show::text(rt, name)?;
+    show::number(rt, if b { 1 } else { 0 })
 }
 
-fn field(name: &[u8], n: u64) {
-    show::text(name);
-    show::number(n);
+fn field(rt: &impl Print, name: &[u8], n: u64) -> io::Result<()> {
+    show::text(rt, name)?;
+    show::number(rt, n)
 }
 
 // An id, and the id of its type again.
-fn type_of(id: u8) {
+fn type_of(rt: &impl Print, id: u8) -> io::Result<()> {
     match UnitType::for_id(id) {
-        UnitTypeForId::Type(t) => show::number(t.id() as u64),
+        UnitTypeForId::Type(t) => show::number(rt, t.id() as u64),
         UnitTypeForId::ValueOutOfRange(v) => {
-            show::text(b"out of range ");
-            show::number(v as u64);
+            show::text(rt, b"out of range ")?;
+            show::number(rt, v as u64)
         }
     }
 }
 
-fn show_header(a: NalHeaderRead) {
+fn show_header(rt: &impl Print, a: NalHeaderRead) -> io::Result<()> {
     match a {
-        NalHeaderRead::Got(h) => header(h),
-        NalHeaderRead::Refused(r) => show::refusal(r),
+        NalHeaderRead::Got(h) => header(rt, h),
+        NalHeaderRead::Refused(r) => show::refusal(rt, r),
     }
 }
 
-fn header(h: NalHeader) {
+fn header(rt: &impl Print, h: NalHeader) -> io::Result<()> {
     let t = h.nal_unit_type();
-    field(b"nal_ref_idc=", h.nal_ref_idc() as u64);
-    field(b" nal_unit_type=", t.id() as u64);
+    field(rt, b"nal_ref_idc=", h.nal_ref_idc() as u64)?;
+    field(rt, b" nal_unit_type=", t.id() as u64)
 }
 
-fn show_extension(a: ExtensionRead) {
+fn show_extension(rt: &impl Print, a: ExtensionRead) -> io::Result<()> {
     match a {
-        ExtensionRead::Got(e) => extension(e),
-        ExtensionRead::Refused(r) => show::refusal(r),
+        ExtensionRead::Got(e) => extension(rt, e),
+        ExtensionRead::Refused(r) => show::refusal(rt, r),
     }
 }
 
-fn extension(e: NalHeaderExtension) {
+fn extension(rt: &impl Print, e: NalHeaderExtension) -> io::Result<()> {
     match e {
-        NalHeaderExtension::Mvc(m) => mvc(m),
+        NalHeaderExtension::Mvc(m) => mvc(rt, m),
         NalHeaderExtension::Svc(v) => {
-            svc_layer(v);
-            svc_picture(v);
+            svc_layer(rt, v)?;
+            svc_picture(rt, v)
         }
     }
 }
 
-fn mvc(m: NalHeaderMvcExtension) {
-    flag(b"mvc non_idr_flag=", m.non_idr_flag());
-    field(b" priority_id=", m.priority_id() as u64);
-    field(b" view_id=", m.view_id() as u64);
-    field(b" temporal_id=", m.temporal_id() as u64);
-    flag(b" anchor_pic_flag=", m.anchor_pic_flag());
-    flag(b" inter_view_flag=", m.inter_view_flag());
+fn mvc(rt: &impl Print, m: NalHeaderMvcExtension) -> io::Result<()> {
+    flag(rt, b"mvc non_idr_flag=", m.non_idr_flag())?;
+    field(rt, b" priority_id=", m.priority_id() as u64)?;
+    field(rt, b" view_id=", m.view_id() as u64)?;
+    field(rt, b" temporal_id=", m.temporal_id() as u64)?;
+    flag(rt, b" anchor_pic_flag=", m.anchor_pic_flag())?;
+    flag(rt, b" inter_view_flag=", m.inter_view_flag())
 }
 
-fn svc_layer(v: NalHeaderSvcExtension) {
-    flag(b"svc idr_flag=", v.idr_flag());
-    field(b" priority_id=", v.priority_id() as u64);
-    flag(b" no_inter_layer_pred_flag=", v.no_inter_layer_pred_flag());
-    field(b" dependency_id=", v.dependency_id() as u64);
-    field(b" quality_id=", v.quality_id() as u64);
+fn svc_layer(rt: &impl Print, v: NalHeaderSvcExtension) -> io::Result<()> {
+    flag(rt, b"svc idr_flag=", v.idr_flag())?;
+    field(rt, b" priority_id=", v.priority_id() as u64)?;
+    flag(
+        rt,
+        b" no_inter_layer_pred_flag=",
+        v.no_inter_layer_pred_flag(),
+    )?;
+    field(rt, b" dependency_id=", v.dependency_id() as u64)?;
+    field(rt, b" quality_id=", v.quality_id() as u64)
 }
 
-fn svc_picture(v: NalHeaderSvcExtension) {
-    field(b" temporal_id=", v.temporal_id() as u64);
-    flag(b" use_ref_base_pic_flag=", v.use_ref_base_pic_flag());
-    flag(b" discardable_flag=", v.discardable_flag());
-    flag(b" output_flag=", v.output_flag());
+fn svc_picture(rt: &impl Print, v: NalHeaderSvcExtension) -> io::Result<()> {
+    field(rt, b" temporal_id=", v.temporal_id() as u64)?;
+    flag(rt, b" use_ref_base_pic_flag=", v.use_ref_base_pic_flag())?;
+    flag(rt, b" discardable_flag=", v.discardable_flag())?;
+    flag(rt, b" output_flag=", v.output_flag())
 }
 
 // A body of up to 12 bytes, and the scratch it was put into, which held EE everywhere.
-fn body(unit: &[u8], from: usize) {
+fn body(rt: &impl Print, unit: &[u8], from: usize) -> io::Result<()> {
     let mut scratch = [0xeeu8; 12];
     let a = unescape(unit, from, &mut scratch);
     match a {
         Body::Of(n) => {
-            show::text(b"bytes=");
-            show::number(n as u64);
+            show::text(rt, b"bytes=")?;
+            show::number(rt, n as u64)?;
         }
-        Body::Refused(r) => show::refusal(r),
+        Body::Refused(r) => show::refusal(rt, r)?,
     }
-    show::text(b" scratch");
-    show::bytes(&scratch);
+    show::text(rt, b" scratch")?;
+    show::bytes(rt, &scratch)
 }
 
-pub(crate) fn answer(kind: u32, at: usize, n: u32, unit: &[u8]) {
+pub(crate) fn answer(rt: &impl Print, kind: u32, at: usize, n: u32, unit: &[u8]) -> io::Result<()> {
     if kind == 9 {
-        type_of((n % 256) as u8);
+        type_of(rt, (n % 256) as u8)
     } else if kind == 10 {
-        show_header(header_of(unit));
+        show_header(rt, header_of(unit))
     } else if kind == 11 {
-        show_extension(extension_of(unit));
+        show_extension(rt, extension_of(unit))
     } else {
-        body(unit, at);
+        body(rt, unit, at)
     }
 }

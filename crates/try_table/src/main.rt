@@ -8,9 +8,11 @@ mod pictures; // a picture set's fields
 mod ids; // ids, neighbours, and entries that no put writes
 mod widths; // the change cycle's width, as puts keep it and as no put writes it
 
-fn main() {
-    sequences::all();
-    pictures::all();
-    ids::all();
-    widths::all();
+use std::io;
+
+fn main(rt: HostRuntime) -> io::Result<()> {
+    sequences::all(&rt)?;
+    pictures::all(&rt)?;
+    ids::all(&rt)?;
+    widths::all(&rt)
 }

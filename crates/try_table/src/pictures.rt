@@ -1,5 +1,6 @@
 // A picture set's fields at their limits.
 use super::show;
+use std::io;
 use table::sets::Picture;
 
 // The rules' sample set.
@@ -54,56 +55,58 @@ fn changed_signed(field: u8, v: i32) -> Picture {
     p
 }
 
-fn name(field: u8) {
+fn name(rt: &impl Print, field: u8) -> io::Result<()> {
     match field {
-        0 => show::text(b"sequence id "),
-        1 => show::text(b"default active l0 minus1 "),
-        2 => show::text(b"default active l1 minus1 "),
-        3 => show::text(b"bipred idc "),
-        _ => show::text(b"change rate "),
+        0 => show::text(rt, b"sequence id "),
+        1 => show::text(rt, b"default active l0 minus1 "),
+        2 => show::text(rt, b"default active l1 minus1 "),
+        3 => show::text(rt, b"bipred idc "),
+        _ => show::text(rt, b"change rate "),
     }
 }
 
 // Each signed case by its name and value.
-fn signed_name(i: usize) {
+fn signed_name(rt: &impl Print, i: usize) -> io::Result<()> {
     match i {
-        0 => show::text(b"init QP minus 26 -2147483648"),
-        1 => show::text(b"init QP minus 26 -63"),
-        2 => show::text(b"init QP minus 26 -62"),
-        3 => show::text(b"init QP minus 26 25"),
-        4 => show::text(b"init QP minus 26 26"),
-        5 => show::text(b"init QP minus 26 2147483647"),
-        6 => show::text(b"init QS minus 26 -27"),
-        7 => show::text(b"init QS minus 26 -26"),
-        8 => show::text(b"init QS minus 26 25"),
-        _ => show::text(b"init QS minus 26 26"),
+        0 => show::text(rt, b"init QP minus 26 -2147483648"),
+        1 => show::text(rt, b"init QP minus 26 -63"),
+        2 => show::text(rt, b"init QP minus 26 -62"),
+        3 => show::text(rt, b"init QP minus 26 25"),
+        4 => show::text(rt, b"init QP minus 26 26"),
+        5 => show::text(rt, b"init QP minus 26 2147483647"),
+        6 => show::text(rt, b"init QS minus 26 -27"),
+        7 => show::text(rt, b"init QS minus 26 -26"),
+        8 => show::text(rt, b"init QS minus 26 25"),
+        _ => show::text(rt, b"init QS minus 26 26"),
     }
 }
 
-fn unsigned_fields() {
+fn unsigned_fields(rt: &impl Print) -> io::Result<()> {
     let mut i = 0;
     while i < 16 {
         let field = FIELDS[i];
         let v = VALUES[i];
-        name(field);
-        show::number(v);
-        show::put_picture_at_5(changed(field, v));
+        name(rt, field)?;
+        show::number(rt, v)?;
+        show::put_picture_at_5(rt, changed(field, v))?;
         i += 1;
     }
+    Ok(())
 }
 
-fn signed_fields() {
+fn signed_fields(rt: &impl Print) -> io::Result<()> {
     let mut i = 0;
     while i < 10 {
         let field = SIGNED_FIELDS[i];
         let v = SIGNED_VALUES[i];
-        signed_name(i);
-        show::put_picture_at_5(changed_signed(field, v));
+        signed_name(rt, i)?;
+        show::put_picture_at_5(rt, changed_signed(field, v))?;
         i += 1;
     }
+    Ok(())
 }
 
-pub(crate) fn all() {
-    unsigned_fields();
-    signed_fields();
+pub(crate) fn all(rt: &impl Print) -> io::Result<()> {
+    unsigned_fields(rt)?;
+    signed_fields(rt)
 }

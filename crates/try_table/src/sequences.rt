@@ -1,5 +1,6 @@
 // A sequence set's fields at their limits.
 use super::show;
+use std::io;
 use table::sets::Sequence;
 
 // The rules' sample set.
@@ -44,26 +45,27 @@ fn changed(field: u8, v: u32) -> Sequence {
     s
 }
 
-fn name(field: u8) {
+fn name(rt: &impl Print, field: u8) -> io::Result<()> {
     match field {
-        0 => show::text(b"chroma format "),
-        1 => show::text(b"luma depth minus 8 "),
-        2 => show::text(b"log2 max frame_num "),
-        3 => show::text(b"order count type "),
-        4 => show::text(b"log2 lsb minus 4 "),
-        5 => show::text(b"map units "),
-        _ => show::text(b"separate planes with chroma format "),
+        0 => show::text(rt, b"chroma format "),
+        1 => show::text(rt, b"luma depth minus 8 "),
+        2 => show::text(rt, b"log2 max frame_num "),
+        3 => show::text(rt, b"order count type "),
+        4 => show::text(rt, b"log2 lsb minus 4 "),
+        5 => show::text(rt, b"map units "),
+        _ => show::text(rt, b"separate planes with chroma format "),
     }
 }
 
-pub(crate) fn all() {
+pub(crate) fn all(rt: &impl Print) -> io::Result<()> {
     let mut i = 0;
     while i < 23 {
         let field = FIELDS[i];
         let v = VALUES[i];
-        name(field);
-        show::number(v);
-        show::put_sequence_at_5(changed(field, v));
+        name(rt, field)?;
+        show::number(rt, v)?;
+        show::put_sequence_at_5(rt, changed(field, v))?;
         i += 1;
     }
+    Ok(())
 }

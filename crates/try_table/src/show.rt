@@ -1,107 +1,108 @@
 // A set put into a table: the answer, and what the entry then holds.
-use libc::STDOUT_FILENO;
+use std::io;
 use table::sets::{Picture, Sequence};
 use table::table::{empty, with_picture, with_sequence};
 use table::words::{Changed, FoundPicture, FoundSequence, picture_in, sequence_in};
 
-pub(crate) fn text(t: &[u8]) {
-    io::write_all(STDOUT_FILENO, t);
+pub(crate) fn text(rt: &impl Print, t: &[u8]) -> io::Result<()> {
+    rt.write_all(t)
 }
 
-pub(crate) fn number(n: u32) {
-    io::print_decimal(STDOUT_FILENO, n as u64);
+pub(crate) fn number(rt: &impl Print, n: u32) -> io::Result<()> {
+    rt.print(n)
 }
 
-pub(crate) fn changed(a: Changed) {
+pub(crate) fn changed(rt: &impl Print, a: Changed) -> io::Result<()> {
     match a {
-        Changed::Done => text(b": done"),
+        Changed::Done => text(rt, b": done"),
         Changed::Refused(r) => {
-            text(b": refused ");
-            number(r.number as u32);
-            value(r.value);
-            place(r.has_bit);
+            text(rt, b": refused ")?;
+            number(rt, r.number as u32)?;
+            value(rt, r.value)?;
+            place(rt, r.has_bit)
         }
     }
 }
 
 // Nothing that the table refuses has a place.
-fn place(there: bool) {
+fn place(rt: &impl Print, there: bool) -> io::Result<()> {
     if there {
-        text(b" bit=other");
+        text(rt, b" bit=other")?;
     }
+    Ok(())
 }
 
-fn value(v: i64) {
+fn value(rt: &impl Print, v: i64) -> io::Result<()> {
     if v == 0 {
-        text(b" value=0");
+        text(rt, b" value=0")
     } else {
-        text(b" value=other");
+        text(rt, b" value=other")
     }
 }
 
-pub(crate) fn found_sequence(f: FoundSequence) {
+pub(crate) fn found_sequence(rt: &impl Print, f: FoundSequence) -> io::Result<()> {
     match f {
         FoundSequence::There(s) => {
-            text(b" there ");
-            number(s.chroma_format_idc);
-            text(b":");
-            number(s.log2_max_frame_num);
-            text(b":");
-            number(s.pic_size_in_map_units);
+            text(rt, b" there ")?;
+            number(rt, s.chroma_format_idc)?;
+            text(rt, b":")?;
+            number(rt, s.log2_max_frame_num)?;
+            text(rt, b":")?;
+            number(rt, s.pic_size_in_map_units)
         }
-        FoundSequence::Absent => text(b" absent"),
+        FoundSequence::Absent => text(rt, b" absent"),
     }
 }
 
 // A picture set that is found, beside the one that was put: its signed fields are told by whether they are the same.
-pub(crate) fn found_picture(f: FoundPicture, put: Picture) {
+pub(crate) fn found_picture(rt: &impl Print, f: FoundPicture, put: Picture) -> io::Result<()> {
     match f {
         FoundPicture::There(p, _) => {
-            text(b" there ");
-            number(p.seq_parameter_set_id);
-            text(b":");
-            number(p.slice_group_change_rate);
-            same(p.pic_init_qp_minus26, put.pic_init_qp_minus26);
-            same(p.pic_init_qs_minus26, put.pic_init_qs_minus26);
+            text(rt, b" there ")?;
+            number(rt, p.seq_parameter_set_id)?;
+            text(rt, b":")?;
+            number(rt, p.slice_group_change_rate)?;
+            same(rt, p.pic_init_qp_minus26, put.pic_init_qp_minus26)?;
+            same(rt, p.pic_init_qs_minus26, put.pic_init_qs_minus26)
         }
-        FoundPicture::Absent => text(b" absent"),
+        FoundPicture::Absent => text(rt, b" absent"),
     }
 }
 
 // The width that stands with a picture set.
-pub(crate) fn width(f: FoundPicture) {
+pub(crate) fn width(rt: &impl Print, f: FoundPicture) -> io::Result<()> {
     match f {
         FoundPicture::There(_, w) => {
-            text(b" ");
-            number(w);
+            text(rt, b" ")?;
+            number(rt, w)
         }
-        FoundPicture::Absent => text(b" absent"),
+        FoundPicture::Absent => text(rt, b" absent"),
     }
 }
 
-fn same(a: i32, b: i32) {
+fn same(rt: &impl Print, a: i32, b: i32) -> io::Result<()> {
     if a == b {
-        text(b":same");
+        text(rt, b":same")
     } else {
-        text(b":other");
+        text(rt, b":other")
     }
 }
 
 // A set put at 5 of an empty table.
-pub(crate) fn put_sequence_at_5(s: Sequence) {
+pub(crate) fn put_sequence_at_5(rt: &impl Print, s: Sequence) -> io::Result<()> {
     let w = with_sequence(empty(), 5, s);
     let answer = w.answer;
     let t = w.table;
-    changed(answer);
-    found_sequence(sequence_in(&t.sequences, 5));
-    text(b"\n");
+    changed(rt, answer)?;
+    found_sequence(rt, sequence_in(&t.sequences, 5))?;
+    text(rt, b"\n")
 }
 
-pub(crate) fn put_picture_at_5(p: Picture) {
+pub(crate) fn put_picture_at_5(rt: &impl Print, p: Picture) -> io::Result<()> {
     let w = with_picture(empty(), 5, p);
     let answer = w.answer;
     let t = w.table;
-    changed(answer);
-    found_picture(picture_in(&t.pictures, 5), p);
-    text(b"\n");
+    changed(rt, answer)?;
+    found_picture(rt, picture_in(&t.pictures, 5), p)?;
+    text(rt, b"\n")
 }

@@ -5,6 +5,8 @@
 mod show; // a unit's answer as text
 mod cases; // the units
 
-fn main() {
-    cases::all();
+use std::io;
+
+fn main(rt: HostRuntime) -> io::Result<()> {
+    cases::all(&rt)
 }

@@ -1,6 +1,6 @@
 // A unit read with the sample sets, and a picture set 1 with deblocking control: its answer as text.
 use bits::refusals::Refusal;
-use libc::STDOUT_FILENO;
+use std::io;
 use syntax::marks::MarkedFlag;
 use syntax::record::{Prefix, SliceHeader};
 use table::sets::{Picture, Sequence};
@@ -9,13 +9,13 @@ use unit::answer::UnitAnswer;
 use unit::head::{HeadRead, UnitHead, head};
 use unit::unit::read_body_in;
 
-fn text(t: &[u8]) {
-    io::write_all(STDOUT_FILENO, t);
+fn text(rt: &impl Print, t: &[u8]) -> io::Result<()> {
+    rt.write_all(t)
 }
 
-fn field(name: &[u8], n: u32) {
-    text(name);
-    io::print_decimal(STDOUT_FILENO, n as u64);
+fn field(rt: &impl Print, name: &[u8], n: u32) -> io::Result<()> {
+    text(rt, name)?;
+    rt.print(n)
 }
 
 // The rules' sample picture set, with deblocking control or without.
@@ -60,21 +60,34 @@ fn sample_table() -> Table {
 }
 
 // The head is that of `bytes`.
-pub(crate) fn shown(name: &[u8], bytes: &[u8], value: i64, said: &[u8]) {
-    shown_for(name, bytes, bytes, value, said);
+pub(crate) fn shown(
+    rt: &impl Print,
+    name: &[u8],
+    bytes: &[u8],
+    value: i64,
+    said: &[u8],
+) -> io::Result<()> {
+    shown_for(rt, name, bytes, bytes, value, said)
 }
 
 // The body of `bytes`, read for the head of `other`.
-pub(crate) fn shown_for(name: &[u8], other: &[u8], bytes: &[u8], value: i64, said: &[u8]) {
-    text(name);
+pub(crate) fn shown_for(
+    rt: &impl Print,
+    name: &[u8],
+    other: &[u8],
+    bytes: &[u8],
+    value: i64,
+    said: &[u8],
+) -> io::Result<()> {
+    text(rt, name)?;
     match head(other) {
-        HeadRead::Got(h) => body(h, bytes, value, said),
-        HeadRead::Refused(x) => refused(x, value, said),
+        HeadRead::Got(h) => body(rt, h, bytes, value, said)?,
+        HeadRead::Refused(x) => refused(rt, x, value, said)?,
     }
-    text(b"\n");
+    text(rt, b"\n")
 }
 
-fn body(head: UnitHead, bytes: &[u8], value: i64, said: &[u8]) {
+fn body(rt: &impl Print, head: UnitHead, bytes: &[u8], value: i64, said: &[u8]) -> io::Result<()> {
     let t = sample_table();
     let mut scratch = [0u8; 128];
     let r = read_body_in(head, &t.sequences, &t.pictures, bytes, &mut scratch);
@@ -83,38 +96,39 @@ fn body(head: UnitHead, bytes: &[u8], value: i64, said: &[u8]) {
     let p = r.prefix;
     match answer {
         UnitAnswer::Slice(n) => {
-            text(b": slice bits=");
-            io::print_decimal(STDOUT_FILENO, n as u64);
-            header(h);
+            text(rt, b": slice bits=")?;
+            rt.print(n)?;
+            header(rt, h)
         }
-        UnitAnswer::Prefix => prefix(p),
-        UnitAnswer::Sequence(s) => field(b": sps id=", s.seq_parameter_set_id),
-        UnitAnswer::Picture(s) => field(b": pps id=", s.pic_parameter_set_id),
-        UnitAnswer::Other(_) => text(b": other"),
-        UnitAnswer::Refused(x) => refused(x, value, said),
+        UnitAnswer::Prefix => prefix(rt, p),
+        UnitAnswer::Sequence(s) => field(rt, b": sps id=", s.seq_parameter_set_id),
+        UnitAnswer::Picture(s) => field(rt, b": pps id=", s.pic_parameter_set_id),
+        UnitAnswer::Other(_) => text(rt, b": other"),
+        UnitAnswer::Refused(x) => refused(rt, x, value, said),
     }
 }
 
-fn refused(x: Refusal, value: i64, said: &[u8]) {
-    field(b": refused ", x.number as u32);
-    text(b" value=");
+fn refused(rt: &impl Print, x: Refusal, value: i64, said: &[u8]) -> io::Result<()> {
+    field(rt, b": refused ", x.number as u32)?;
+    text(rt, b" value=")?;
     if x.value == value {
-        text(said);
+        text(rt, said)?;
     } else {
-        text(b"other");
+        text(rt, b"other")?;
     }
-    place(x);
+    place(rt, x)
 }
 
 // The place of a refusal, if it has one.
-fn place(x: Refusal) {
+fn place(rt: &impl Print, x: Refusal) -> io::Result<()> {
     if x.has_bit {
-        text(b" bit=");
-        io::print_decimal(STDOUT_FILENO, x.bit as u64);
+        text(rt, b" bit=")?;
+        rt.print(x.bit)?;
     }
+    Ok(())
 }
 
-fn header(h: SliceHeader) {
+fn header(rt: &impl Print, h: SliceHeader) -> io::Result<()> {
     let a = h.active_counts;
     let m = h.modifications;
     let l = m.l0;
@@ -122,26 +136,27 @@ fn header(h: SliceHeader) {
     let f = h.filter;
     let n = a.num_ref_idx_l0_active_minus1;
     let idc = f.disable_deblocking_filter_idc;
-    field(b" slice_type=", h.slice_type);
-    field(b" active=", n.value);
-    field(b" mods=", o.count);
-    field(b" idc=", idc.value);
+    field(rt, b" slice_type=", h.slice_type)?;
+    field(rt, b" active=", n.value)?;
+    field(rt, b" mods=", o.count)?;
+    field(rt, b" idc=", idc.value)
 }
 
-fn flag(name: &[u8], f: MarkedFlag) {
+fn flag(rt: &impl Print, name: &[u8], f: MarkedFlag) -> io::Result<()> {
     if f.there {
-        field(name, f.value as u32);
+        field(rt, name, f.value as u32)?;
     }
+    Ok(())
 }
 
-fn prefix(p: Prefix) {
+fn prefix(rt: &impl Print, p: Prefix) -> io::Result<()> {
     let store = p.store_ref_base_pic_flag;
     let adaptive = p.adaptive_ref_base_pic_marking_mode_flag;
     let base = p.base_marking;
     let more = p.additional_prefix_nal_unit_extension_flag;
-    text(b": prefix");
-    flag(b" store=", store);
-    flag(b" adaptive=", adaptive);
-    field(b" base=", base.count);
-    flag(b" more=", more);
+    text(rt, b": prefix")?;
+    flag(rt, b" store=", store)?;
+    flag(rt, b" adaptive=", adaptive)?;
+    field(rt, b" base=", base.count)?;
+    flag(rt, b" more=", more)
 }

@@ -4,6 +4,7 @@ use super::numbers::{Number, number_at};
 use super::shown::{line, started};
 use super::words::put;
 use super::{sets, show};
+use std::io;
 
 // The place after a name's colon.
 fn name_end(s: &[u8], from: usize) -> usize {
@@ -18,13 +19,14 @@ fn name_end(s: &[u8], from: usize) -> usize {
     i
 }
 
-fn name(s: &[u8], from: usize, to: usize) {
+fn name(rt: &impl Print, s: &[u8], from: usize, to: usize) -> io::Result<()> {
     if from <= to {
         if to <= s.len() {
-            show::text(&s[from..to]);
-            show::text(b" ");
+            show::text(rt, &s[from..to])?;
+            show::text(rt, b" ")?;
         }
     }
+    Ok(())
 }
 
 // Far behind the last slot it stays where it is.
@@ -99,9 +101,15 @@ fn changes(
 }
 
 // A record, written and read back. The place after it.
-fn case<'a>(sequences: &'a [u32; 224], pictures: &'a [u32; 2304], s: &[u8], from: usize) -> usize {
+fn case<'a>(
+    rt: &impl Print,
+    sequences: &'a [u32; 224],
+    pictures: &'a [u32; 2304],
+    s: &[u8],
+    from: usize,
+) -> io::Result<usize> {
     let at = name_end(s, from);
-    name(s, from, at);
+    name(rt, s, from, at)?;
     let first = number_at(s, at);
     let there = number_at(s, first.next);
     let b1 = number_at(s, there.next);
@@ -127,6 +135,7 @@ fn case<'a>(sequences: &'a [u32; 224], pictures: &'a [u32; 2304], s: &[u8], from
         n.size,
     );
     line(
+        rt,
         sequences,
         pictures,
         started(first.size, there.size, b1.size),
@@ -138,21 +147,29 @@ fn case<'a>(sequences: &'a [u32; 224], pictures: &'a [u32; 2304], s: &[u8], from
         &w0,
         &w1,
         room.size as usize,
-    );
-    next
+    )?;
+    Ok(next)
 }
 
-fn each<'a>(sequences: &'a [u32; 224], pictures: &'a [u32; 2304], s: &[u8], from: usize, n: u32) {
+fn each<'a>(
+    rt: &impl Print,
+    sequences: &'a [u32; 224],
+    pictures: &'a [u32; 2304],
+    s: &[u8],
+    from: usize,
+    n: u32,
+) -> io::Result<()> {
     let mut at = from;
     let mut i: u32 = 0;
     while i < n {
-        at = case(sequences, pictures, s, at);
+        at = case(rt, sequences, pictures, s, at)?;
         i += 1;
     }
+    Ok(())
 }
 
-pub(crate) fn all(s: &[u8]) {
+pub(crate) fn all(rt: &impl Print, s: &[u8]) -> io::Result<()> {
     let t = sets::all();
     let n = number_at(s, 0);
-    each(&t.sequences, &t.pictures, s, n.next, n.size);
+    each(rt, &t.sequences, &t.pictures, s, n.next, n.size)
 }

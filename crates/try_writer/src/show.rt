@@ -1,38 +1,39 @@
 // Answers and bytes as text.
 use bits::refusals::Refusal;
-use libc::STDOUT_FILENO;
+use std::io;
 
-pub(crate) fn text(t: &[u8]) {
-    io::write_all(STDOUT_FILENO, t);
+pub(crate) fn text(rt: &impl Print, t: &[u8]) -> io::Result<()> {
+    rt.write_all(t)
 }
 
-pub(crate) fn number(n: u64) {
-    io::print_decimal(STDOUT_FILENO, n);
+pub(crate) fn number(rt: &impl Print, n: u64) -> io::Result<()> {
+    rt.print(n)
 }
 
 // The writer's refusals have no value below zero.
-fn value(z: i64) {
+fn value(rt: &impl Print, z: i64) -> io::Result<()> {
     if z < 0 {
-        text(b"below zero");
+        text(rt, b"below zero")
     } else {
-        number(z as u64);
+        number(rt, z as u64)
     }
 }
 
 // Nothing that the writer refuses has a place; what is refused when it is read back has.
-fn place(r: Refusal) {
+fn place(rt: &impl Print, r: Refusal) -> io::Result<()> {
     if r.has_bit {
-        text(b" bit=");
-        number(r.bit as u64);
+        text(rt, b" bit=")?;
+        number(rt, r.bit as u64)?;
     }
+    Ok(())
 }
 
-pub(crate) fn refusal(r: Refusal) {
-    text(b"refused ");
-    number(r.number as u64);
-    text(b" value=");
-    value(r.value);
-    place(r);
+pub(crate) fn refusal(rt: &impl Print, r: Refusal) -> io::Result<()> {
+    text(rt, b"refused ")?;
+    number(rt, r.number as u64)?;
+    text(rt, b" value=")?;
+    value(rt, r.value)?;
+    place(rt, r)
 }
 
 pub(crate) fn byte_at(d: &[u8], i: usize) -> u8 {
@@ -43,28 +44,29 @@ fn wide(b: u8) -> u32 {
     b as u32
 }
 
-fn byte(b: u8) {
-    io::print_hex(STDOUT_FILENO, b as u64, 2);
+fn byte(rt: &impl Print, b: u8) -> io::Result<()> {
+    print!(rt; "{b:02x}")
 }
 
-fn bytes(d: &[u8], n: usize) {
+fn bytes(rt: &impl Print, d: &[u8], n: usize) -> io::Result<()> {
     let mut i = 0;
     while i < n {
-        byte(byte_at(d, i));
+        byte(rt, byte_at(d, i))?;
         i += 1;
     }
+    Ok(())
 }
 
 fn added(a: u32, b: u32) -> u32 {
     ((a as u64 + b as u64) % 65521) as u32
 }
 
-fn half(n: u32) {
-    io::print_hex(STDOUT_FILENO, n as u64, 4);
+fn half(rt: &impl Print, n: u32) -> io::Result<()> {
+    print!(rt; "{n:04x}")
 }
 
 // The Adler-32 sum of the first n bytes.
-fn sum(d: &[u8], n: usize) {
+fn sum(rt: &impl Print, d: &[u8], n: usize) -> io::Result<()> {
     let mut a: u32 = 1;
     let mut b: u32 = 0;
     let mut i = 0;
@@ -73,21 +75,21 @@ fn sum(d: &[u8], n: usize) {
         b = added(b, a);
         i += 1;
     }
-    half(b);
-    half(a);
+    half(rt, b)?;
+    half(rt, a)
 }
 
 // The first n bytes, cut after 24 and then with a sum over all, and how many they are.
-pub(crate) fn written(d: &[u8], n: usize) {
+pub(crate) fn written(rt: &impl Print, d: &[u8], n: usize) -> io::Result<()> {
     if n <= 24 {
-        bytes(d, n);
+        bytes(rt, d, n)?;
     } else {
-        bytes(d, 24);
-        text(b"..adler32=");
-        sum(d, n);
+        bytes(rt, d, 24)?;
+        text(rt, b"..adler32=")?;
+        sum(rt, d, n)?;
     }
-    text(b" of ");
-    number(n as u64);
+    text(rt, b" of ")?;
+    number(rt, n as u64)
 }
 
 // Whether all bytes from a place on are still those that the buffer was filled with.

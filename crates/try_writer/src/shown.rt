@@ -2,6 +2,7 @@
 use super::{built, same, show};
 use bits::put::put_bits;
 use bits::read::Cursor;
+use std::io;
 use unit::head::{HeadRead, head};
 use unit::into::{ShortAnswer, read_body_into};
 use writer::given::ExtensionGiven;
@@ -57,43 +58,43 @@ fn last(d: &[u8], n: usize) -> u8 {
     if n == 0 { 0 } else { show::byte_at(d, n - 1) }
 }
 
-fn kept(d: &[u8], from: usize) {
+fn kept(rt: &impl Print, d: &[u8], from: usize) -> io::Result<()> {
     if show::is_filled(d, from) {
-        show::text(b" kept");
+        show::text(rt, b" kept")
     } else {
-        show::text(b" touched");
+        show::text(rt, b" touched")
     }
 }
 
 // The bytes that the header's bits take, their spare bits, and what stands behind them.
-fn bytes(d: &[u8], bits: usize) {
+fn bytes(rt: &impl Print, d: &[u8], bits: usize) -> io::Result<()> {
     let n = whole_bytes(bits);
-    show::text(b"bits=");
-    show::number(bits as u64);
-    show::text(b" bytes=");
-    show::written(d, n);
-    show::text(b" spare=");
-    show::number(spare(last(d, n), bits) as u64);
-    show::text(b" rest");
-    kept(d, n);
+    show::text(rt, b"bits=")?;
+    show::number(rt, bits as u64)?;
+    show::text(rt, b" bytes=")?;
+    show::written(rt, d, n)?;
+    show::text(rt, b" spare=")?;
+    show::number(rt, spare(last(d, n), bits) as u64)?;
+    show::text(rt, b" rest")?;
+    kept(rt, d, n)
 }
 
-fn told(answer: ShortAnswer, bits: usize, is_same: bool) {
+fn told(rt: &impl Print, answer: ShortAnswer, bits: usize, is_same: bool) -> io::Result<()> {
     match answer {
         ShortAnswer::Slice(n) => {
             if n != bits {
-                show::text(b"other bits");
+                show::text(rt, b"other bits")
             } else if is_same {
-                show::text(b"same");
+                show::text(rt, b"same")
             } else {
-                show::text(b"other");
+                show::text(rt, b"other")
             }
         }
-        ShortAnswer::Prefix(_) => show::text(b"prefix"),
-        ShortAnswer::Sequence(_) => show::text(b"no slice"),
-        ShortAnswer::Picture(_) => show::text(b"no slice"),
-        ShortAnswer::Other(_) => show::text(b"no slice"),
-        ShortAnswer::Refused(x) => show::refusal(x),
+        ShortAnswer::Prefix(_) => show::text(rt, b"prefix"),
+        ShortAnswer::Sequence(_) => show::text(rt, b"no slice"),
+        ShortAnswer::Picture(_) => show::text(rt, b"no slice"),
+        ShortAnswer::Other(_) => show::text(rt, b"no slice"),
+        ShortAnswer::Refused(x) => show::refusal(rt, x),
     }
 }
 
@@ -122,6 +123,7 @@ fn read_in_turn<'a>(
 
 // The first n bytes read as a unit, and its record compared.
 fn read_part<'a>(
+    rt: &impl Print,
     sequences: &'a [u32; 224],
     pictures: &'a [u32; 2304],
     u: &[u8],
@@ -134,7 +136,7 @@ fn read_part<'a>(
     w0: &[i32; 256],
     w1: &[i32; 256],
     bits: usize,
-) {
+) -> io::Result<()> {
     if n <= u.len() {
         let mut scratch = [0u8; 9216];
         let mut numbers2 = [0u32; 57];
@@ -163,12 +165,14 @@ fn read_part<'a>(
             numbers, signed, l0, l1, marking, w0, w1, &numbers2, &signed2, &m0, &m1, &marking2,
             &v0, &v1,
         );
-        show::text(b" back=");
-        told(answer, bits, is_same);
+        show::text(rt, b" back=")?;
+        told(rt, answer, bits, is_same)?;
     }
+    Ok(())
 }
 
 fn read_back<'a>(
+    rt: &impl Print,
     sequences: &'a [u32; 224],
     pictures: &'a [u32; 2304],
     u: &[u8; 9216],
@@ -181,14 +185,15 @@ fn read_back<'a>(
     w0: &[i32; 256],
     w1: &[i32; 256],
     bits: usize,
-) {
+) -> io::Result<()> {
     read_part(
-        sequences, pictures, u, n, numbers, signed, l0, l1, marking, w0, w1, bits,
-    );
+        rt, sequences, pictures, u, n, numbers, signed, l0, l1, marking, w0, w1, bits,
+    )
 }
 
 // Nine set bits follow the header, and so something after the first bit.
 fn back<'a>(
+    rt: &impl Print,
     sequences: &'a [u32; 224],
     pictures: &'a [u32; 2304],
     s: Start,
@@ -201,13 +206,13 @@ fn back<'a>(
     w1: &[i32; 256],
     d: &mut [u8; 6144],
     bits: usize,
-) {
+) -> io::Result<()> {
     put_bits(d, Cursor { at: bits }, 9, 511);
     let mut u = [0u8; 9216];
     let n = built::unit(&mut u, s.first, s.extension, d, bits / 8 + 3);
     read_back(
-        sequences, pictures, &u, n, numbers, signed, l0, l1, marking, w0, w1, bits,
-    );
+        rt, sequences, pictures, &u, n, numbers, signed, l0, l1, marking, w0, w1, bits,
+    )
 }
 
 // The first `room` bytes of the buffer are lent, or all of it.
@@ -259,6 +264,7 @@ fn written<'a>(
 
 // A record written into the first `room` bytes of a buffer that is filled with a5.
 pub(crate) fn line<'a>(
+    rt: &impl Print,
     sequences: &'a [u32; 224],
     pictures: &'a [u32; 2304],
     s: Start,
@@ -270,21 +276,21 @@ pub(crate) fn line<'a>(
     w0: &[i32; 256],
     w1: &[i32; 256],
     room: usize,
-) {
+) -> io::Result<()> {
     let mut d = [0xa5u8; 6144];
     match written(
         sequences, pictures, s, numbers, signed, l0, l1, marking, w0, w1, &mut d, room,
     ) {
         HeaderWrote::Bits(n) => {
-            bytes(&d, n);
+            bytes(rt, &d, n)?;
             back(
-                sequences, pictures, s, numbers, signed, l0, l1, marking, w0, w1, &mut d, n,
-            );
+                rt, sequences, pictures, s, numbers, signed, l0, l1, marking, w0, w1, &mut d, n,
+            )?;
         }
         HeaderWrote::Refused(r) => {
-            show::refusal(r);
-            kept(&d, 0);
+            show::refusal(rt, r)?;
+            kept(rt, &d, 0)?;
         }
     }
-    show::text(b"\n");
+    show::text(rt, b"\n")
 }
