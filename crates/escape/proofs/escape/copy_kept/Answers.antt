@@ -18,7 +18,7 @@ pub loop-scratch-init : goal.loop-scratch-init
 loop-scratch-init c = let a = c.args in started a.unit.now a.from a.known a.scratch.now (omega arith) c.later-seen.ensures
 
 pub shape_of-scratch-then-n-e : goal.shape_of-scratch-then-n-e
-shape_of-scratch-then-n-e c = c.copy_in.auto.1.0 ∙ c.loop-scratch.invariant.same
+shape_of-scratch-then-n-e c = c.copy_in.auto.dst ∙ c.loop-scratch.invariant.same
 
 pub returns-then-n-e : goal.returns-then-n-e
 returns-then-n-e c =
@@ -29,16 +29,18 @@ returns-then-n-e c =
     let w = l.invariant in
     let src = take (length a.unit.now - l.i) (drop l.i a.unit.now) in
     let g : l.o + length src ≤ length l.scratch = rw (length-take, length-drop) (omega arith) in
+    let e =
     ended a.unit.now (known_body a.unit.now a.from a.known) a.from a.scratch.now l.scratch l.i l.o l.seen w
-    m.result m.new.1.0
+    m.result m.new.dst
     (none_left a.unit.now l.seen k.result k.ensures (omega arith))
-    (omega arith) (copied-to src l.scratch l.o g m.ensures.0) (m.ensures.1 ∙ copied_all src l.scratch l.o g)
+    (omega arith) (copied-to src l.scratch l.o g m.ensures.value) (m.ensures.dst_after ∙ copied_all src l.scratch l.o g) in
+    record { value = e.0; scratch_after = e.1 }
 
--- part-copy-in-end-2 : tie.Need-slice-bounds-copy-in-end-2 invariant-loop decreases-loop
--- part-copy-in-end-2 c =
---     let l = c.before.before.loop in
---     let a = c.before.before.before.before.before.before.before.args in
---     omega (arith, esc-room (found-there a.unit.now l.seen c.before.seek.result c.before.seek.ensures (omega arith)))
+pub slice_bounds-copy_in-end-in-loop-scratch : goal.slice_bounds-copy_in-end-in-loop-scratch
+slice_bounds-copy_in-end-in-loop-scratch c =
+    let l = c.loop-scratch in
+    let a = c.args in
+    omega (arith, esc-room (found-there a.unit.now l.seen c.seek-e.result c.seek-e.ensures (omega arith)))
 
 pub overflow_add-i : goal.overflow_add-i
 overflow_add-i c =
@@ -69,5 +71,5 @@ loop-scratch-preserved c =
     let p = esc-room (found-there u l.seen e q (omega arith)) in
     let src = take (e + 2 - l.i) (drop l.i u) in
     let g : l.o + length src ≤ length l.scratch = rw (length-take, length-drop) (omega arith) in
-    went_on u (known_body u a.from a.known) a.from a.scratch.now l.scratch l.i l.o l.seen w e m.result m.new.1.0
-    (omega arith) (none_before u l.seen e q) (found-there u l.seen e q (omega arith)) (omega arith) (copied-to src l.scratch l.o g m.ensures.0) (m.ensures.1 ∙ copied_all src l.scratch l.o g)
+    went_on u (known_body u a.from a.known) a.from a.scratch.now l.scratch l.i l.o l.seen w e m.result m.new.dst
+    (omega arith) (none_before u l.seen e q) (found-there u l.seen e q (omega arith)) (omega arith) (copied-to src l.scratch l.o g m.ensures.value) (m.ensures.dst_after ∙ copied_all src l.scratch l.o g)

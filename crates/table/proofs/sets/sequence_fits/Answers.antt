@@ -1,6 +1,5 @@
 use mathlib.Core.Bool.{and-true}
 use Rattle.table.specs.Sets.{between, all, sequence_fits}
-use borrow.Author.Rules.{rules}
 use Rattle.table.proofs.sets.sequence_fits.Goals as goal
 
 pub returns : goal.returns

@@ -6,7 +6,6 @@ use Rattle.table.proofs.Tests.{refuted, held}
 use Rattle.table.proofs.Ranges.{picture-ranges}
 use Rattle.table.proofs.Storing.{parts, picture-put-past, picture-put-unfit, picture-put-stored, picture-words}
 use borrow.Author.Rules.{rules}
-use Rattle.bits.proofs.refusals.refuse.Reads as refuse-reads
 use Rattle.table.proofs.words.put_picture_in.Goals as goal
 
 pub returns-then-id-gt255 : goal.returns-then-id-gt255

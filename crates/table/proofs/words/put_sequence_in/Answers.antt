@@ -1,7 +1,5 @@
 use Rattle.table.proofs.Tests.{refuted, held}
 use Rattle.table.proofs.Storing.{with-widths, widths-past, widths-unfit, widths-done, sequence-put-past, sequence-put-unfit, sequence-put-stored, sequence-words}
-use borrow.Author.Rules.{rules}
-use Rattle.bits.proofs.refusals.refuse.Reads as refuse-reads
 use Rattle.table.proofs.words.put_sequence_in.Goals as goal
 
 pub returns-then-id-gt31 : goal.returns-then-id-gt31

@@ -1,9 +1,7 @@
-use mathlib.Core.Path.{◌≡◌, sym, ◌∙◌, ap}
-use Prim.Native.Nat.{ℕ, ◌*◌}
-use Rattle.table.specs.Sets.{sequence_fits}
+use mathlib.Core.Path.{sym, ◌∙◌}
 use Rattle.table.specs.Tables.{sequence_of}
 use Rattle.table.proofs.Tests.{two}
-use Rattle.table.proofs.Looking.{entry_at, sequence-past, sequence-none, sequence-there}
+use Rattle.table.proofs.Looking.{sequence-past, sequence-none, sequence-there}
 use borrow.Author.Rules.{rules}
 use Rattle.table.proofs.words.sequence_in.Goals as goal
 

@@ -2,7 +2,6 @@ use native.Mathlib.Nat.{add-zero}
 use Rattle.bits.specs.Refusals.{pick}
 use Rattle.bits.specs.Bits.{number_of}
 use Rattle.table.specs.Tables.{sequence_marks}
-use borrow.Author.Rules.{rules}
 use Rattle.table.proofs.words.sequence_marks.Goals as goal
 
 pub returns : goal.returns
