@@ -8,9 +8,6 @@ use Rattle.table.proofs.Signs.{wide_fits, wide_is}
 use borrow.Author.Rules.{rules}
 use Rattle.fields.proofs.quant.qp_delta.Goals as goal
 
-pub enum_told-1 : goal.enum_told-1
-enum_told-1 c = search rules
-
 pub returns-in_default : goal.returns-in_default
 returns-in_default c = test-none _ _ _ _ _ _ c.code-a.ensures (ap as_given c.in_default.is)
 

@@ -10,9 +10,6 @@ use Rattle.fields.proofs.Cases.{test-none, test-pass, test-fail}
 use borrow.Author.Rules.{rules}
 use Rattle.fields.proofs.read.tested.Goals as goal
 
-pub enum_told-1 : goal.enum_told-1
-enum_told-1 c = search rules
-
 pub returns-in_default : goal.returns-in_default
 unfolding ue
 returns-in_default c = test-none _ _ _ _ _ _ c.ue-a.ensures (ap as_read c.in_default.is)

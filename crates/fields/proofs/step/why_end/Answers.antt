@@ -1,9 +1,6 @@
 use borrow.Author.Rules.{rules}
 use Rattle.fields.proofs.step.why_end.Goals as goal
 
-pub enum_told-1 : goal.enum_told-1
-enum_told-1 c = search rules
-
 pub returns-in-At : goal.returns-in-At
 returns-in-At c = rw c.in-At.is c.no_refusal.ensures
 

@@ -1,5 +1,3 @@
-use borrow.Author.Rules.{rules}
-use borrow.Author.Tests.{not-true, not-false}
 use mathlib.Core.Path.{refl}
 use Rattle.bits.specs.Bits.{bits_of}
 use Rattle.lists.specs.Kinds.{kind_of}
@@ -9,20 +7,17 @@ use Rattle.lists.proofs.list_words.operations_into.Goals as goal
 pub returns-then-not-there : goal.returns-then-not-there
 returns-then-not-there c =
     let g = c.args in
-    let f = onto-absent g.there (kind_of g.kind) (bits_of g.s.now) g.c.at g.words.now (not-true g.there c.if-not-there.true) in
+    let f = onto-absent g.there (kind_of g.kind) (bits_of g.s.now) g.c.at g.words.now c.if-not-there.true in
     record { value = f.0; words_after = left-read g.there (kind_of g.kind) (bits_of g.s.now) g.c.at g.words.now f.0 refl f.1 }
-
-pub enum_told-1 : goal.enum_told-1
-enum_told-1 c = search rules
 
 pub returns-in_default : goal.returns-in_default
 returns-in_default c =
     let g = c.args in
-    let f = onto-there g.there (kind_of g.kind) (bits_of g.s.now) g.c.at g.words.now (not-false g.there c.if-not-there.false) c.fill-a.ensures in
+    let f = onto-there g.there (kind_of g.kind) (bits_of g.s.now) g.c.at g.words.now c.if-not-there.false (c.fill-a.ensures.value, c.fill-a.ensures.words_after) in
     record { value = f.0; words_after = left-refused _ _ f.0 c.in_default.is c.clear_list.ensures }
 
 pub returns : goal.returns
 returns c =
     let g = c.args in
-    let f = onto-there g.there (kind_of g.kind) (bits_of g.s.now) g.c.at g.words.now (not-false g.there c.if-not-there.false) c.fill-a.ensures in
+    let f = onto-there g.there (kind_of g.kind) (bits_of g.s.now) g.c.at g.words.now c.if-not-there.false (c.fill-a.ensures.value, c.fill-a.ensures.words_after) in
     record { value = f.0; words_after = left-read g.there (kind_of g.kind) (bits_of g.s.now) g.c.at _ f.0 c.in-Got.is f.1 }

@@ -3,9 +3,6 @@ use Rattle.syntax.specs.SliceHeader.{active_counts, active_minus1}
 use borrow.Author.Rules.{rules}
 use Rattle.parts.proofs.counts.active_counts.Goals as goal
 
-pub enum_told-1 : goal.enum_told-1
-enum_told-1 c = search rules
-
 pub returns-in_default : goal.returns-in_default
 unfolding active_counts seq shaped active_minus1
 returns-in_default c = rw (c.why_flag.ensures, ← c.is_type-b.ensures, ← c.flag_if-a1.ensures, c.in_default.is)

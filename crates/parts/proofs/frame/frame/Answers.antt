@@ -4,9 +4,6 @@ use Rattle.syntax.specs.SliceHeader.{frame}
 use borrow.Author.Rules.{rules}
 use Rattle.parts.proofs.frame.frame.Goals as goal
 
-pub enum_told-1 : goal.enum_told-1
-enum_told-1 c = search rules
-
 pub returns-in_default : goal.returns-in_default
 unfolding frame seq shaped u
 returns-in_default c = rw (c.why_number.ensures, ← c.colour_plane_if-a1.ensures, c.in_default.is)

@@ -6,9 +6,6 @@ use Rattle.syntax.specs.SliceHeader.{deltas}
 use borrow.Author.Rules.{rules}
 use Rattle.parts.proofs.order.deltas.Goals as goal
 
-pub enum_told-1 : goal.enum_told-1
-enum_told-1 c = search rules
-
 pub returns-in_default : goal.returns-in_default
 unfolding deltas seq shaped
 returns-in_default c = rw (c.why_given.ensures, ← c.both-first_there.ensures, ← c.given_signed-a1.ensures, c.in_default.is)

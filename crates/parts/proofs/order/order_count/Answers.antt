@@ -3,9 +3,6 @@ use Rattle.syntax.specs.SliceHeader.{order_count}
 use borrow.Author.Rules.{rules}
 use Rattle.parts.proofs.order.order_count.Goals as goal
 
-pub enum_told-1 : goal.enum_told-1
-enum_told-1 c = search rules
-
 pub returns-in_default : goal.returns-in_default
 unfolding order_count seq shaped
 returns-in_default c = rw (c.why_number.ensures, ← c.lsb_if-a1.ensures, c.in_default.is)

@@ -6,9 +6,6 @@ use Rattle.syntax.specs.SliceHeader.{quantiser}
 use borrow.Author.Rules.{rules}
 use Rattle.parts.proofs.quantiser.quantiser.Goals as goal
 
-pub enum_told-1 : goal.enum_told-1
-enum_told-1 c = search rules
-
 pub returns-in_default : goal.returns-in_default
 unfolding quantiser seq shaped
 returns-in_default c = rw (c.why_number.ensures, ← c.has_cabac.ensures, ← c.number_if-a1.ensures, c.in_default.is)

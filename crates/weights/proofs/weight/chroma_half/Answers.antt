@@ -6,9 +6,6 @@ use Rattle.weights.specs.Halves.{chroma_half}
 use borrow.Author.Rules.{rules}
 use Rattle.weights.proofs.weight.chroma_half.Goals as goal
 
-pub enum_told-1 : goal.enum_told-1
-enum_told-1 c = search rules
-
 pub returns-in_default : goal.returns-in_default
 unfolding chroma_half seq
 returns-in_default c = rw (c.why_flag.ensures, ← c.given_flag-a1.ensures, c.in_default.is)

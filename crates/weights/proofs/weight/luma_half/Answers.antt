@@ -7,9 +7,6 @@ use Rattle.weights.specs.Halves.{luma_half}
 use borrow.Author.Rules.{rules}
 use Rattle.weights.proofs.weight.luma_half.Goals as goal
 
-pub enum_told-1 : goal.enum_told-1
-enum_told-1 c = search rules
-
 pub returns-in_default : goal.returns-in_default
 unfolding luma_half seq flag
 returns-in_default c = rw (c.why_flag.ensures, ← c.flag-a1.ensures, c.in_default.is)

@@ -5,9 +5,6 @@ use Rattle.weights.proofs.Joined.{joined}
 use borrow.Author.Rules.{rules}
 use Rattle.weights.proofs.weight.weight.Goals as goal
 
-pub enum_told-1 : goal.enum_told-1
-enum_told-1 c = search rules
-
 pub returns-in_default : goal.returns-in_default
 returns-in_default c = rw (joined, c.why_luma.ensures, ← c.luma_half-a1.ensures, c.in_default.is)
 
