@@ -30,4 +30,5 @@ returns c =
     let f = c.args.from in
     let b : c.any_kept.result ≡ any_set (behind_bits u f far) = c.any_kept.ensures ∙ ap (λ (z : ℕ). any_set (bytes_bits (body z (drop far u)))) c.zeros_before.ensures.0 in
     let e : c.set_byte.result ≡ pick (any_set (behind_bits u f far)) 1 0 = c.set_byte.ensures ∙ ap (λ (t : Bool). pick t 1 0) b in
-    (let all = (let all = (let all = (let all = far-more u f c.args.local.now (omega arith) (search rules) c.first_bytes-k.ensures.value c.first_bytes-k.ensures.local_after e in (all.0, all.1)) in (all.0, all.1)) in (all.0, all.1)) in (all.0, all.1))
+    let m = far-more u f c.args.local.now (omega arith) (search rules) c.first_bytes-k.ensures.value c.first_bytes-k.ensures.local_after e in
+    record { value = m.0; local_after = m.1 }

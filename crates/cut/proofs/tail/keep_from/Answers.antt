@@ -16,7 +16,9 @@ pub shape_of-local-then-n-ge256 : goal.shape_of-local-then-n-ge256
 shape_of-local-then-n-ge256 c = c.loop-i.invariant.4
 
 pub returns-then-n-ge256 : goal.returns-then-n-ge256
-returns-then-n-ge256 c = (let all = (let all = (let all = stored-full _ _ _ _ _ c.loop-i.invariant.0 256 (omega arith) in (all.0, all.1)) in (all.0, all.1)) in (all.0, all.1))
+returns-then-n-ge256 c =
+    let e = stored-full _ _ _ _ _ c.loop-i.invariant.0 256 (omega arith) in
+    record { value = e.0; local_after = e.1 }
 
 pub keep-n-requires : goal.keep-n-requires
 keep-n-requires c = omega (arith, c.loop-i.invariant.3, c.loop-i.invariant.4)
@@ -33,10 +35,12 @@ loop-i-preserved c =
     let g = few-kept l.zeros (get_or u l.i 0) in
     let e = c.zeros_after-zeros.ensures in
     let k = c.keep-n.ensures in
-    (rw (e, add-one, k.value, k.local_after) (store-next (body c.args.z (drop c.args.from u)) b l.local l.n u l.zeros l.i (search rules) (omega (arith, l.invariant.3)) l.invariant.value), omega arith, omega arith, l.invariant.3, rw k.local_after (kept-room (drops l.zeros (get_or u l.i 0)) l.local l.n (get_or u l.i 0) ∙ l.invariant.4))
+    (rw (e, add-one, k.value, k.local_after) (store-next (body c.args.z (drop c.args.from u)) b l.local l.n u l.zeros l.i (search rules) (omega (arith, l.invariant.3)) l.invariant.0), omega arith, omega arith, l.invariant.3, rw k.local_after (kept-room (drops l.zeros (get_or u l.i 0)) l.local l.n (get_or u l.i 0) ∙ l.invariant.4))
 
 pub shape_of-local : goal.shape_of-local
 shape_of-local c = c.loop-i.invariant.4
 
 pub returns : goal.returns
-returns c = (let all = (let all = (let all = stored-all _ _ _ _ _ c.loop-i.invariant.value 256 c.loop-i.invariant.local_after (none_left c.args.unit.now c.loop-i.zeros c.loop-i.i (search rules)) in (all.0, all.local_after)) in (all.0, all.1)) in (all.0, all.1))
+returns c =
+    let e = stored-all _ _ _ _ _ c.loop-i.invariant.0 256 c.loop-i.invariant.1 (none_left c.args.unit.now c.loop-i.zeros c.loop-i.i (search rules)) in
+    record { value = e.0; local_after = e.1 }
