@@ -15,16 +15,16 @@ import tempfile
 from promises import ROOT, functions, plain
 
 THEOREMS = {"Demands": "demand-", "Behind": "behind-", "Bound": "bound-", "Widths": "widths-", "Sets": "sets-", "Headers": "headers-", "Exposures": "exposures-"}  # files of crates/promises/proofs, and how the theorems for signers begin
-MODULE = re.compile(r"Rattle·(\w+)(?:·\w+)?\.(specs|proofs)\.([\w.]+)$")
+MODULE = re.compile(r"Rattle\.(\w+)\.(specs|proofs)\.([\w.]+)$")
 USE = re.compile(r"^(?:ghost )?use (\S+?)(?:\.\{([^}]*)\}|(?: as (\S+?))?);?$", re.M | re.S)
 SIGNATURE = re.compile(r"^( *)((?:(?:abbrev|unfoldable|pub) )*)(record |data )?(«?[^\s(){}:«»]+»?)(?= .*:| *:|$)")
 WORD = re.compile(r"[^\s(){}\[\],;\"⌜⌝]+")
 
 
-def module_of(path):
-    """Crate, folder and name of a module of ours; None for a library's, and for the types that src/ declares."""
+def module_of(path, root):
+    """Crate, folder and name of a module of ours; None for one of the kit's, and for the types that src/ declares."""
     found = MODULE.match(path)
-    return found.groups() if found and not found[3].startswith("declared.") else None
+    return found.groups() if found and (root / "crates" / found[1]).is_dir() and not found[3].startswith("declared.") else None
 
 
 def words(text):
@@ -34,9 +34,9 @@ def words(text):
 class File:
     """A file of specs/ or proofs/: what it defines, and where the names in it come from."""
 
-    def __init__(self, path):
+    def __init__(self, path, root):
         text = re.sub(r"--.*", "", path.read_text())
-        self.names, self.aliases = imports(text)
+        self.names, self.aliases = imports(text, root)
         self.blocks, self.owner = {}, {}
         name = closed = None  # the definition at hand; the indent of a record or a data type that is open
         for line in USE.sub("", text).splitlines():
@@ -64,11 +64,11 @@ class File:
         return "\n".join(out)
 
 
-def imports(text):
+def imports(text, root):
     """Names that a file uses from modules of ours, and its names for whole modules."""
     names, aliases = {}, {}
     for path, listed, alias in USE.findall(text):
-        module = module_of(path)
+        module = module_of(path, root)
         if not module:
             continue
         if alias:
@@ -86,7 +86,7 @@ class Tree:
     def file(self, module):
         if module not in self.files:
             crate, folder, name = module
-            self.files[module] = File(self.root / "crates" / crate / folder / (name.replace(".", "/") + ".antt"))
+            self.files[module] = File(self.root / "crates" / crate / folder / (name.replace(".", "/") + ".antt"), self.root)
         return self.files[module]
 
     def reach(self, text, names, aliases, home=None):
@@ -129,7 +129,7 @@ class Tree:
         for path in sorted(self.root.glob("crates/*/src/**/*.rt")):
             if not any(path.parent.rglob("main.rt")):
                 text = plain(path.read_text())
-                names, aliases = imports(text)
+                names, aliases = imports(text, self.root)
                 for f in functions(text):
                     for _, clause in f.clauses:
                         self.reach(clause, names, aliases)
@@ -150,21 +150,21 @@ def differences(page, told, found):
 
 
 TRIED = {
-    "crates/promises/proofs/Demands.antt": "use Rattle·a.specs.Top.{top}\nuse Rattle·a.proofs.Law as law\n\n-- named, not reached\npub demand-1-x : (n : ℕ) → top n ≡ n\ndemand-1-x n = law.other n\n",
-    "crates/promises/proofs/Behind.antt": "use Rattle·c.specs.Late.{late}\n\nlaw : (n : ℕ) → n ≡ n\nlaw n = refl\n\npub behind-y : (n : ℕ) → late n ≡ n\nbehind-y n = law n\n",
-    "crates/promises/proofs/Bound.antt": "use Rattle·c.specs.Most.{most}\n\npub bound-z : (n : ℕ) → most n ≡ n\nbound-z n = refl\n",
-    "crates/promises/proofs/Widths.antt": "use Rattle·c.specs.Late.{late}\n\npub widths-z : (n : ℕ) → late n ≡ n\nwidths-z n = refl\n",
-    "crates/promises/proofs/Sets.antt": "use Rattle·c.specs.Late.{late}\n\npub sets-z : (n : ℕ) → late n ≡ n\nsets-z n = refl\n",
-    "crates/promises/proofs/Headers.antt": "use Rattle·c.specs.Late.{late}\n\npub headers-z : (n : ℕ) → late n ≡ n\nheaders-z n = refl\n",
-    "crates/promises/proofs/Exposures.antt": "use Rattle·c.specs.Late.{late}\n\npub exposures-z : (n : ℕ) → late n ≡ n\nexposures-z n = refl\n",
+    "crates/promises/proofs/Demands.antt": "use Rattle.a.specs.Top.{top}\nuse Rattle.a.proofs.Law as law\n\n-- named, not reached\npub demand-1-x : (n : ℕ) → top n ≡ n\ndemand-1-x n = law.other n\n",
+    "crates/promises/proofs/Behind.antt": "use Rattle.c.specs.Late.{late}\n\nlaw : (n : ℕ) → n ≡ n\nlaw n = refl\n\npub behind-y : (n : ℕ) → late n ≡ n\nbehind-y n = law n\n",
+    "crates/promises/proofs/Bound.antt": "use Rattle.c.specs.Most.{most}\n\npub bound-z : (n : ℕ) → most n ≡ n\nbound-z n = refl\n",
+    "crates/promises/proofs/Widths.antt": "use Rattle.c.specs.Late.{late}\n\npub widths-z : (n : ℕ) → late n ≡ n\nwidths-z n = refl\n",
+    "crates/promises/proofs/Sets.antt": "use Rattle.c.specs.Late.{late}\n\npub sets-z : (n : ℕ) → late n ≡ n\nsets-z n = refl\n",
+    "crates/promises/proofs/Headers.antt": "use Rattle.c.specs.Late.{late}\n\npub headers-z : (n : ℕ) → late n ≡ n\nheaders-z n = refl\n",
+    "crates/promises/proofs/Exposures.antt": "use Rattle.c.specs.Late.{late}\n\npub exposures-z : (n : ℕ) → late n ≡ n\nexposures-z n = refl\n",
     "crates/promises/specs/Lib.antt": "",
-    "crates/a/specs/Top.antt": "use Rattle·a·specs.specs.Deep.{Pair, pair}\nuse Rattle·b.specs.All as all\nuse Rattle·a·specs.specs.Unused.{unused}\n\nabbrev pub top : ℕ → ℕ\ntop n = all.all (pair n)\n\nabbrev pub second : ℕ → ℕ\nsecond n = unused n\n",
+    "crates/a/specs/Top.antt": "use Rattle.a.specs.Deep.{Pair, pair}\nuse Rattle.std.specs.Prelude.{ℕ, eqb}\nuse Rattle.b.specs.All as all\nuse Rattle.a.specs.Unused.{unused}\n\nabbrev pub top : ℕ → ℕ\ntop n = all.all (pair n)\n\nabbrev pub second : ℕ → ℕ\nsecond n = unused n\n",
     "crates/a/specs/Deep.antt": "pub data Pair : Type 0 where\n  -- two\n  pair : ℕ → Pair\n",
     "crates/a/specs/Unused.antt": "abbrev pub unused : ℕ → ℕ\nunused n = n\n",
     "crates/b/specs/All.antt": "module _ (n : ℕ) where\n  abbrev pub all : ℕ\n  all = n\n",
     "crates/c/specs/Late.antt": "abbrev pub late : ℕ → ℕ\nlate n = n\n",
     "crates/c/specs/Most.antt": "abbrev pub most : ℕ → ℕ\nmost n = n\n",
-    "crates/b/src/lib.rt": "ghost use Rattle·a.specs.Unused.{unused};\npub fn f(x: u32) -> u32\n ensures { λ r. ⌜ r ≡ unused x ⌝ }\n{ x }\n",
+    "crates/b/src/lib.rt": "ghost use Rattle.a.specs.Unused.{unused};\npub fn f(x: u32) -> u32\n ensures { result ≡ unused x }\n{ x }\n",
 }
 
 

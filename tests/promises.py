@@ -87,7 +87,7 @@ def bare(fact):
 
 def facts(text):
     """What a clause says, taken apart at `×`."""
-    todo = [bare(f) for f in re.findall("⌜(.*?)⌝", text, re.S)]
+    todo = [bare(text)]
     while todo:
         parts = split(todo.pop(), " × ")
         if len(parts) == 1:
@@ -98,8 +98,8 @@ def facts(text):
 
 def sides(fact):
     """The two sides of an equation, or None."""
-    if fact.startswith("_≡_"):
-        rest, words = re.sub(r"^_≡_\s*(\{[^{}]*\})?", "", fact).strip(), []
+    if fact.startswith("◌≡◌"):
+        rest, words = re.sub(r"^◌≡◌\s*(\{[^{}]*\})?", "", fact).strip(), []
         while rest:
             end = closing(rest, 0) if rest[0] in CLOSES else len(rest.split()[0])
             words, rest = words + [bare(rest[:end])], rest[end:].strip()
@@ -127,49 +127,49 @@ def faults(f):
         yield f"has a {word}"
     told, answered = [], False
     for text in (text for word, text in f.clauses if word == "ensures"):
-        result = re.match(r"\s*λ\s+(\S+)\.\s", text)
         said = [fact for fact in facts(text) if not empty(fact)]
         if not said or len(said) < len(list(facts(text))):
             yield f"has a clause that says nothing: {bare(text)}"
-        about = [fact for fact in said if result and names(fact, result[1])]
+        about = [fact for fact in said if names(fact, "result")]
         for fact in about:
-            if sides(fact) and all(names(side, result[1]) for side in sides(fact)):
+            if sides(fact) and all(names(side, "result") for side in sides(fact)):
                 yield f"has its result on both sides: {fact}"
         told, answered = told + said, answered or bool(about)
     if f.answers and not answered and told:
         yield "does not say its result"
     for word in f.lent:
-        # at its exit, alone or among several that one name puts together: `now (d .exit)`, `words d e .exit`
-        if not any(re.search(rf"«?\b{word}»?(?:\s+«?\w+»?)*\s+\.exit\b", fact) for fact in told):
+        # as it is at the return, alone or among several that one name puts together: `d.new`, `(words d e).exit`
+        if not any(re.search(rf"«?\b{word}»?(?:\.new\b|(?:\s+«?\w+»?)*\)\.exit\b)", fact) for fact in told):
             yield f"does not say what it leaves in `{word}`"
 
 
 # Each with a part of the fault that must be found, or none. A function without a contract must not take the next one's.
 TRIED = [
-    ("pub fn f(x: u32) -> u32 {\n x }\npub fn g(x: u32) -> u32\n ensures { λ r. ⌜ r ≡ x ⌝ }\n{ x }", ["f has no ensures"]),
+    ("pub fn f(x: u32) -> u32 {\n x }\npub fn g(x: u32) -> u32\n ensures { result ≡ x }\n{ x }", ["f has no ensures"]),
     ("pub fn f(x: u32) -> u32 { x }", ["f has no ensures"]),
     ("pub fn f(x: u32)\n{ }", ["f has no ensures"]),
     ("impl S {\n    pub fn f(self) -> u32 {\n 1 }\n}\npub fn g() -> u32 {\n 1 }", ["S::f has no ensures", "g has no ensures"]),
-    ('#[no_mangle]\npub extern "C" fn f(\n x: u32,\n) -> u32 {\n x }', ["f has no ensures"]),
-    ("// ensures { λ r. ⌜ r ≡ x ⌝ }\npub fn f(x: u32) -> u32 // ensures { }\n{ x }", ["f has no ensures"]),
-    ("pub fn f(x: u32) -> u32\n requires { ⌜ x ≤ 3 ⌝ }\n ensures { λ r. ⌜ r ≡ x ⌝ }\n{ x }", ["f has a requires"]),
-    ("pub fn f(x: u32) -> u32\n ensures { λ r. ⌜ Unit ⌝ }\n{ x }", ["f has a clause that says nothing"]),
-    ("pub fn f(x: u32) -> u32\n ensures { λ r. ⌜ r ≡ r ⌝ }\n{ x }", ["f has a clause that says nothing"]),
-    ("pub fn f(x: u32) -> u32\n ensures { λ r. ⌜ (r ≡ x) × (Unit {0}) ⌝ }\n{ x }", ["f has a clause that says nothing"]),
-    ("pub fn f(x: u32) -> u32\n ensures { λ r. ⌜ (x ≤ 3 → (r ≡ (r))) ⌝ }\n{ x }", ["f has a clause that says nothing"]),
-    ("pub fn f(x: u32) -> u32\n ensures { λ r. ⌜ _≡_ {A = ℕ} (g r) (g  r) ⌝ }\n{ x }", ["f has a clause that says nothing"]),
-    ("pub fn f(x: u32) -> u32\n ensures { λ r. ⌜ r ≡ x ⌝ }\n ensures more { λ r. emp }\n{ x }", ["f has a clause that says nothing"]),
-    ("pub fn f(x: u32) -> u32\n ensures { λ r. ⌜ r ≡ pick (eqb r 1) 1 x ⌝ }\n{ x }", ["f has its result on both sides"]),
-    ("pub fn f(x: u32) -> u32\n ensures { λ r. ⌜ x ≤ 4294967295 ⌝ }\n{ x }", ["f does not say its result"]),
-    ("pub fn f(d: &mut [u8]) -> u32\n ensures { λ r. ⌜ r ≡ 1 ⌝ }\n{ 1 }", ["f does not say what it leaves in `d`"]),
-    ("pub fn f<'a>(d: &'a mut [u8], e: &mut [u8; 4])\n ensures { λ _. ⌜ now (d .exit) ≡ now (e .entry) ⌝ }\n{ }", ["f does not say what it leaves in `e`"]),
-    ("pub fn f(d: &mut [u8])\n ensures { λ _. ⌜ now (d .exit) ≡ now (d .exit) ⌝ }\n{ }", ["f has a clause that says nothing", "f does not say what it leaves in `d`"]),
-    ("impl S {\n    pub fn f(&mut self) -> u32\n        ensures { λ r. ⌜ r ≡ 1 ⌝ }\n    { 1 }\n}", ["S::f does not say what it leaves in `self`"]),
-    ("pub fn f(d: &mut [u8], x: u32) -> u32\n ensures { λ r. ⌜ (r ≡ g x .answer) × (now (d .exit) ≡ g x .left) ⌝ }\n{ b\"{\"; 1 }", []),
-    ("pub fn f(d: &mut [u8], e: &mut [u8])\n ensures { λ _. ⌜ both d e .exit ≡ g (both d e .entry) ⌝ }\n{ }", []),
-    ("pub fn f(d: &mut [u8], e: &mut [u8])\n ensures { λ _. ⌜ both d .exit ≡ g (both d e .entry) ⌝ }\n{ }", ["f does not say what it leaves in `e`"]),
-    ("pub fn f(d: &mut [u8; 4]) -> u32\n ensures { λ r. ⌜ Written a (now (d .entry)) r (now (d .exit)) ⌝ }\n{ 1 }", []),
-    ("pub fn f(«x»: u32) -> R<'a>\n ensures { λ q. ⌜ _≡_ {A = R} q (record { a = «x» }) ⌝ }\n{ 1 }", []),
+    ('#[unsafe(no_mangle)]\npub extern "C" fn f(\n x: u32,\n) -> u32 {\n x }', ["f has no ensures"]),
+    ("// ensures { result ≡ x }\npub fn f(x: u32) -> u32 // ensures { }\n{ x }", ["f has no ensures"]),
+    ("pub fn f(x: u32) -> u32\n requires small { x ≤ 3 }\n ensures { result ≡ x }\n{ x }", ["f has a requires"]),
+    ("pub fn f(x: u32) -> u32\n ensures { Unit }\n{ x }", ["f has a clause that says nothing"]),
+    ("pub fn f(x: u32) -> u32\n ensures value { result ≡ result }\n{ x }", ["f has a clause that says nothing"]),
+    ("pub fn f(x: u32) -> u32\n ensures { (result ≡ x) × (Unit {0}) }\n{ x }", ["f has a clause that says nothing"]),
+    ("pub fn f(x: u32) -> u32\n ensures { (x ≤ 3 → (result ≡ (result))) }\n{ x }", ["f has a clause that says nothing"]),
+    ("pub fn f(x: u32) -> u32\n ensures { ◌≡◌ {A = ℕ} (g result) (g  result) }\n{ x }", ["f has a clause that says nothing"]),
+    ("pub fn f(x: u32) -> u32\n ensures { result ≡ x }\n ensures more { emp }\n{ x }", ["f has a clause that says nothing"]),
+    ("pub fn f(x: u32) -> u32\n ensures { result ≡ pick (eqb result 1) 1 x }\n{ x }", ["f has its result on both sides"]),
+    ("pub fn f(x: u32) -> u32\n ensures { x ≤ 4294967295 }\n{ x }", ["f does not say its result"]),
+    ("pub fn f(d: &mut [u8]) -> u32\n ensures { result ≡ 1 }\n{ 1 }", ["f does not say what it leaves in `d`"]),
+    ("pub fn f<'a>(d: &'a mut [u8], e: &mut [u8; 4])\n ensures { d.new ≡ e.old }\n{ }", ["f does not say what it leaves in `e`"]),
+    ("pub fn f(d: &mut [u8])\n ensures { d.new ≡ d.new }\n{ }", ["f has a clause that says nothing", "f does not say what it leaves in `d`"]),
+    ("impl S {\n    pub fn f(&mut self) -> u32\n        ensures { result ≡ 1 }\n    { 1 }\n}", ["S::f does not say what it leaves in `self`"]),
+    ("pub fn f(d: &mut [u8], x: u32) -> u32\n ensures { (result ≡ (g x).answer) × (d.new ≡ (g x).left) }\n{ b\"{\"; 1 }", []),
+    ("pub fn f(d: &mut [u8], x: u32) -> u32\n ensures value { result ≡ (g x).answer }\n ensures d_after { d.new ≡ (g x).left }\n{ 1 }", []),
+    ("pub fn f(d: &mut [u8], e: &mut [u8])\n ensures { (both d e).exit ≡ g (both d e).entry }\n{ }", []),
+    ("pub fn f(d: &mut [u8], e: &mut [u8])\n ensures { (both d).exit ≡ g (both d e).entry }\n{ }", ["f does not say what it leaves in `e`"]),
+    ("pub fn f(d: &mut [u8; 4]) -> u32\n ensures { Written a d.old result d.new }\n{ 1 }", []),
+    ("pub fn f(«x»: u32) -> R<'a>\n ensures { ◌≡◌ {A = R} result (record { a = «x» }) }\n{ 1 }", []),
     ("fn f(x: u32) -> u32 { x }\npub(crate) fn g(x: u32) -> u32 { x }", []),
 ]
 
