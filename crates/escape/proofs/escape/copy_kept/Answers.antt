@@ -1,11 +1,10 @@
-use borrow.Author.Rules.{rules}
 use native.Mathlib.Omega.{arith}
-use mathlib.Core.Path.{◌≡◌, refl, ◌∙◌}
-use Prim.Native.Nat.{ℕ, ◌+◌, ◌-◌, ◌≤◌, ◌<◌}
+use mathlib.Core.Path.{◌∙◌}
+use Prim.Native.Nat.{◌+◌, ◌-◌, ◌≤◌}
 use lib.ListN.{length, take, drop, length-drop, length-take}
 use Rattle.bits.proofs.Copies.{copied_all, copied-to}
 use Rattle.escape.specs.Known.{known_body}
-use Rattle.escape.proofs.Runs.{Copied, started, no-known, none_before, none_left, found-there, esc-room, went_on, ended}
+use Rattle.escape.proofs.Runs.{started, no-known, none_before, none_left, found-there, esc-room, went_on, ended}
 use Rattle.escape.proofs.escape.copy_kept.Goals as goal
 
 pub returns-then-n-from : goal.returns-then-n-from

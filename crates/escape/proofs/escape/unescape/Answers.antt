@@ -1,9 +1,4 @@
 use mathlib.Core.Path.{ap, ◌∙◌}
-use mathlib.Core.List.{List}
-use Prim.Native.Nat.{ℕ}
-use borrow.Author.Rules.{rules}
-use Rattle.escape.specs.declared.escape.Body.{Body}
-use Rattle.escape.specs.Body.{Unescaped}
 use Rattle.escape.proofs.Bodies.{none-known, answered, leaves}
 use Rattle.escape.proofs.escape.unescape.Goals as goal
 

@@ -4,7 +4,6 @@ use lib.ListN.{length}
 use mir.Facts.{to_z_pos}
 use mir.Syntax.{w64}
 use native.Mathlib.Omega.{arith}
-use borrow.Author.Rules.{rules}
 use Rattle.escape.proofs.Bodies.{answered, leaves, known-large, known-short, known-done}
 use Rattle.escape.proofs.escape.unescape_known.Goals as goal
 

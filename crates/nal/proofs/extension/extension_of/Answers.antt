@@ -1,6 +1,5 @@
 use mathlib.Core.Path.{sym}
 use native.Mathlib.Omega.{arith}
-use borrow.Author.Rules.{rules}
 use Rattle.nal.proofs.ThreeBytes.{no-extension, with-extension}
 use Rattle.nal.proofs.extension.extension_of.Goals as goal
 

@@ -1,6 +1,5 @@
 use mathlib.Core.Path.{sym, ◌∙◌}
 use native.Mathlib.Omega.{arith}
-use borrow.Author.Rules.{rules}
 use Rattle.nal.proofs.FirstByte.{no_byte_lem, first_byte}
 use Rattle.nal.proofs.header.header_of.Goals as goal
 

@@ -1,9 +1,5 @@
-use borrow.Author.Rules.{rules}
-use native.Mathlib.Omega.{arith}
-use mathlib.Core.Path.{◌≡◌}
 use Prim.Native.Nat.{ℕ, ◌+◌, ◌-◌, ◌≤◌, ◌<◌}
 use Rattle.scan.specs.Clear.{Spot}
-use Rattle.scan.proofs.Clears.{first_step, first-clear}
 use Rattle.scan.proofs.blocks.first_of.Given as goal
 
 abbrev pub invariant-loop-k : goal.invariant-loop-k

@@ -2,10 +2,10 @@ use borrow.Author.Rules.{rules}
 use borrow.Author.Tests.{eqb-true}
 use native.Mathlib.Omega.{arith}
 use mathlib.Core.Path.{◌≡◌, sym, ◌∙◌}
-use Prim.Native.Nat.{ℕ, ◌+◌, ◌-◌, ◌*◌, ◌≤◌, ◌<◌}
-use lib.ListN.{length, get_or, length-set}
+use Prim.Native.Nat.{ℕ, ◌*◌}
+use lib.ListN.{length-set}
 use Rattle.scan.specs.Clear.{Low}
-use Rattle.scan.proofs.Clears.{Least, least_step, quiet-least, none-step}
+use Rattle.scan.proofs.Clears.{least_step, quiet-least, none-step}
 use Rattle.scan.proofs.blocks.is_calm.Goals as goal
 
 pub loop-k-init : goal.loop-k-init

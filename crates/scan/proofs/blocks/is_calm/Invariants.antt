@@ -1,11 +1,8 @@
-use borrow.Author.Rules.{rules}
-use borrow.Author.Tests.{eqb-true}
-use native.Mathlib.Omega.{arith}
-use mathlib.Core.Path.{◌≡◌, sym, ◌∙◌}
-use Prim.Native.Nat.{ℕ, ◌+◌, ◌-◌, ◌*◌, ◌≤◌, ◌<◌}
-use lib.ListN.{length, get_or, length-set}
+use mathlib.Core.Path.{◌≡◌}
+use Prim.Native.Nat.{ℕ, ◌-◌, ◌*◌, ◌≤◌, ◌<◌}
+use lib.ListN.{length}
 use Rattle.scan.specs.Clear.{Low}
-use Rattle.scan.proofs.Clears.{Least, least_step, quiet-least, none-step}
+use Rattle.scan.proofs.Clears.{Least}
 use Rattle.scan.proofs.blocks.is_calm.Given as goal
 
 -- the first loop: the least of k places; the second: no low pair at p of them

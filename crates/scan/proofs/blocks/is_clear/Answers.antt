@@ -1,9 +1,6 @@
-use borrow.Author.Rules.{rules}
 use borrow.Author.Tests.{ltb-true}
 use native.Mathlib.Omega.{arith}
 use mathlib.Core.Path.{◌≡◌}
-use Prim.Native.Nat.{ℕ, ◌+◌, ◌-◌, ◌≤◌, ◌<◌}
-use Rattle.scan.specs.Clear.{Clear}
 use Rattle.scan.proofs.Clears.{clear_none, clear_step}
 use Rattle.scan.proofs.blocks.is_clear.Goals as goal
 

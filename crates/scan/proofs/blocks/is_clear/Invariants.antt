@@ -1,10 +1,5 @@
-use borrow.Author.Rules.{rules}
-use borrow.Author.Tests.{ltb-true}
-use native.Mathlib.Omega.{arith}
-use mathlib.Core.Path.{◌≡◌}
-use Prim.Native.Nat.{ℕ, ◌+◌, ◌-◌, ◌≤◌, ◌<◌}
+use Prim.Native.Nat.{◌+◌, ◌-◌, ◌≤◌, ◌<◌}
 use Rattle.scan.specs.Clear.{Clear}
-use Rattle.scan.proofs.Clears.{clear_none, clear_step}
 use Rattle.scan.proofs.blocks.is_clear.Given as goal
 
 abbrev pub invariant-loop-k : goal.invariant-loop-k

@@ -1,9 +1,8 @@
-use borrow.Author.Rules.{rules}
 use borrow.Author.Tests.{eqb-true}
 use native.Mathlib.Omega.{arith}
 use mathlib.Core.Path.{◌≡◌}
-use Prim.Native.Nat.{ℕ, ◌+◌, ◌-◌, ◌*◌, ◌≤◌, ◌<◌}
-use Rattle.scan.specs.Clear.{Low, Quiet}
+use Prim.Native.Nat.{ℕ, ◌+◌, ◌*◌}
+use Rattle.scan.specs.Clear.{Low}
 use Rattle.scan.proofs.Clears.{none-step}
 use Rattle.scan.proofs.blocks.is_quiet.Goals as goal
 

@@ -1,10 +1,6 @@
-use borrow.Author.Rules.{rules}
-use borrow.Author.Tests.{eqb-true}
-use native.Mathlib.Omega.{arith}
 use mathlib.Core.Path.{◌≡◌}
-use Prim.Native.Nat.{ℕ, ◌+◌, ◌-◌, ◌*◌, ◌≤◌, ◌<◌}
-use Rattle.scan.specs.Clear.{Low, Quiet}
-use Rattle.scan.proofs.Clears.{none-step}
+use Prim.Native.Nat.{◌-◌, ◌≤◌}
+use Rattle.scan.specs.Clear.{Quiet}
 use Rattle.scan.proofs.blocks.is_quiet.Given as goal
 
 abbrev pub invariant-loop-k : goal.invariant-loop-k

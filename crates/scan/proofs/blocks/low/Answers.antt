@@ -1,4 +1,3 @@
-use borrow.Author.Rules.{rules}
 use Rattle.scan.proofs.Clears.{low-zero}
 use Rattle.scan.proofs.blocks.low.Goals as goal
 

@@ -1,8 +1,5 @@
-use borrow.Author.Rules.{rules}
 use native.Mathlib.Omega.{arith}
-use Prim.Native.Nat.{ℕ, ◌+◌, ◌-◌, ◌≤◌, ◌<◌}
-use lib.ListN.{length}
-use Rattle.scan.specs.Clear.{Clear}
+use Prim.Native.Nat.{◌+◌}
 use Rattle.scan.proofs.Clears.{clear-join}
 use Rattle.scan.proofs.blocks.pass_large.Goals as goal
 

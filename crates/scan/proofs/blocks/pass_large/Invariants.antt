@@ -1,9 +1,6 @@
-use borrow.Author.Rules.{rules}
-use native.Mathlib.Omega.{arith}
-use Prim.Native.Nat.{ℕ, ◌+◌, ◌-◌, ◌≤◌, ◌<◌}
+use Prim.Native.Nat.{◌-◌, ◌≤◌}
 use lib.ListN.{length}
 use Rattle.scan.specs.Clear.{Clear}
-use Rattle.scan.proofs.Clears.{clear-join}
 use Rattle.scan.proofs.blocks.pass_large.Given as goal
 
 abbrev pub invariant-loop-i : goal.invariant-loop-i

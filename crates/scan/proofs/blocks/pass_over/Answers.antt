@@ -1,6 +1,5 @@
 use native.Mathlib.Omega.{arith}
 use Rattle.scan.proofs.Clears.{clear-join}
-use borrow.Author.Rules.{rules}
 use Rattle.scan.proofs.blocks.pass_over.Goals as goal
 
 pub returns : goal.returns

@@ -1,5 +1,4 @@
 use Rattle.scan.proofs.Clears.{trace-zero}
-use borrow.Author.Rules.{rules}
 use Rattle.scan.proofs.blocks.trace.Goals as goal
 
 pub returns : goal.returns

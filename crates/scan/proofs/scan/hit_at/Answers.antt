@@ -1,8 +1,5 @@
-use borrow.Author.Rules.{rules}
-use mathlib.Core.Path.{◌≡◌, sym}
-use Prim.Native.Nat.{◌+◌, ◌<◌, ◌≤◌}
+use mathlib.Core.Path.{sym}
 use native.Mathlib.Omega.{arith}
-use lib.ListN.{length, drop, length-drop}
 use Rattle.scan.proofs.Hits.{hit-short, hit-no-1, hit-no-2, hit-no-3, hit-yes}
 use Rattle.scan.proofs.scan.hit_at.Goals as goal
 

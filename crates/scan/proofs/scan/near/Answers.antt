@@ -1,6 +1,5 @@
 use native.Mathlib.Omega.{arith}
 use Rattle.scan.proofs.Clears.{near-low, near-three, near-one}
-use borrow.Author.Rules.{rules}
 use Rattle.scan.proofs.scan.near.Goals as goal
 
 pub returns-then-low-high : goal.returns-then-low-high

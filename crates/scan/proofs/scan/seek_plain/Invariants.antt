@@ -1,10 +1,7 @@
-use borrow.Author.Rules.{rules}
-use native.Mathlib.Omega.{arith}
-use mathlib.Core.Path.{◌≡◌, refl, sym, ap, ◌∙◌}
-use Prim.Native.Nat.{ℕ, ◌+◌, ◌-◌, ◌≤◌}
-use lib.ListN.{length, drop, length-drop}
+use mathlib.Core.Path.{◌≡◌}
+use Prim.Native.Nat.{◌+◌, ◌-◌, ◌≤◌}
+use lib.ListN.{length, drop}
 use Rattle.scan.specs.Scan.{upto}
-use Rattle.scan.proofs.Hits.{upto-hit, upto-miss, upto_skip, upto-short}
 use Rattle.scan.proofs.scan.seek_plain.Given as goal
 
 abbrev pub invariant-loop-i : goal.invariant-loop-i

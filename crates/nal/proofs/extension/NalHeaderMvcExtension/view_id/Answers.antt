@@ -1,6 +1,5 @@
 use native.Mathlib.Omega.{arith}
 use lib.Dec.{lit≤}
-use borrow.Author.Rules.{rules}
 use Rattle.nal.specs.Extension.{mvc_bits, view_id}
 use Rattle.nal.proofs.ThreeBytes.{three-field}
 use Rattle.nal.proofs.extension.NalHeaderMvcExtension.view_id.Goals as goal

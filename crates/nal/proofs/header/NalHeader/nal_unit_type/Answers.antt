@@ -1,5 +1,4 @@
 use mathlib.Core.Path.{sym, ◌∙◌}
-use borrow.Author.Rules.{rules}
 use Rattle.nal.proofs.FirstByte.{unit-type}
 use Rattle.nal.proofs.header.NalHeader.nal_unit_type.Goals as goal
 

@@ -1,6 +1,5 @@
 use mathlib.Core.Path.{sym}
 use native.Mathlib.Omega.{arith}
-use borrow.Author.Rules.{rules}
 use Rattle.nal.proofs.FirstByte.{top_set, top-clear}
 use Rattle.nal.proofs.header.NalHeader.new.Goals as goal
 

@@ -2,7 +2,6 @@ use mathlib.Core.Path.{sym}
 use Prim.Native.Nat.{◌<◌}
 use native.Mathlib.Omega.{arith}
 use native.Mathlib.Nat.{mod-eq_of_lt}
-use borrow.Author.Rules.{rules}
 use Rattle.nal.proofs.Types.{for-id-in, for-id-out}
 use Rattle.nal.proofs.unit_type.UnitType.for_id.Goals as goal
 

@@ -1,5 +1,4 @@
 use mathlib.Core.Path.{refl}
-use borrow.Author.Rules.{rules}
 use Rattle.nal.specs.UnitType.{type_of}
 use Rattle.nal.proofs.unit_type.UnitType.of_low_bits.Goals as goal
 
