@@ -1,21 +1,21 @@
 -- How reading behaves where bits are added behind, and how far it looks: one law for each combinator and each single field. What is read stays, and so does a
 -- refusal, unless it is 5; and 5 comes only where fewer bits are there than a format looks at.
 use Prim.Native.Nat.{ℕ, zero, suc, ◌+◌, ◌-◌, ◌*◌, ◌^◌, ◌≤◌, ◌<◌}
-use mathlib.Core.Path.{◌≡◌, refl, sym, ap, ◌∙◌}
-use mathlib.Core.List.{List, [], ◌∷◌, ◌++◌}
+use mathlib.Core.Path.{◌≡◌, refl}
+use mathlib.Core.List.{[], ◌∷◌, ◌++◌}
 use mathlib.Core.Bool.{Bool, true, false}
 use native.Mathlib.Omega.{arith}
 use native.Mathlib.Nat.{mul-suc, suc-mul}
-use borrow.Author.Tests.{le-leb, lt-leb, leb-true, leb-false}
+use borrow.Author.Tests.{le-leb, leb-true, leb-false}
 use lib.Dec.{T, leb, leb→le, eqb}
 use lib.IntN.{ℤ, pos}
 use lib.ListN.{length, take, drop, length-append, length-drop}
 use lib.Seq.{take-append-le, drop-append-le}
 use Rattle.bits.specs.declared.refusals.Refusal.{Refusal}
-use Rattle.bits.specs.Refusals.{Res, got, no, bind, pick, refusal_at, ran_out, list_full}
+use Rattle.bits.specs.Refusals.{Res, got, no, bind, pick, refusal_at, ran_out}
 use Rattle.bits.specs.Bits.{Bits, number_of, field}
-use Rattle.bits.specs.Codes.{width_of, fixed_at, u_at, is_set, flag_at, suffix_at, code_at, ue_at, se_of, se_at}
-use Rattle.fmt.specs.Fmt.{Fmt, nothing, seq, shaped, test, Marked, when, times, until}
+use Rattle.bits.specs.Codes.{width_of, fixed_at, suffix_at, code_at, ue_at}
+use Rattle.fmt.specs.Fmt.{Fmt, nothing, seq, shaped, test, when, times, until}
 use Rattle.fmt.specs.Leaves.{flag, u, ue, se}
 use Rattle.fmt.proofs.Lawful.{Lawful}
 use Rattle.fmt.proofs.Any.{good_of}

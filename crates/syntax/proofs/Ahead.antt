@@ -1,12 +1,10 @@
 -- How far reading a header looks, and a prefix unit's body: part by part, as a number. No answer, a refusal or not, hangs on a bit behind it.
-use Prim.Native.Nat.{ℕ, ◌+◌, ◌*◌, ◌≤◌}
-use mathlib.Core.Path.{◌≡◌}
+use Prim.Native.Nat.{ℕ, ◌+◌, ◌≤◌}
 use mathlib.Core.Bool.{Bool, true, false, not, ◌&&◌}
 use native.Mathlib.Omega.{arith}
-use native.Mathlib.Nat.{mul-le-mul_right}
 use lib.IntN.{ℤ, pos}
 use Rattle.bits.specs.Refusals.{pick}
-use Rattle.fmt.specs.Fmt.{Fmt, seq, when, times}
+use Rattle.fmt.specs.Fmt.{Fmt, seq, when}
 use Rattle.fmt.specs.Leaves.{flag, ue, se}
 use Rattle.fmt.proofs.Ahead.{Ahead, ahead_more, u-ahead, u-ahead-32, flag-ahead, ue-ahead, se-ahead, nothing-ahead, seq-ahead, seq-ahead-good, shaped-ahead, test-ahead, when-ahead, times-ahead, until-ahead}
 use Rattle.table.specs.declared.table.Table.{Table}

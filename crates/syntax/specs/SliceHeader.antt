@@ -10,7 +10,7 @@ use Rattle.table.specs.declared.table.Table.{Table}
 use Rattle.table.specs.Tables.{picture_at, sequence_at}
 use Rattle.table.specs.Sets.{between_z}
 use Rattle.syntax.specs.Marks.{is_zero, is_zero_z, number_if, signed_if, flag_if, given}
-use Rattle.syntax.specs.Lists.{Kind, operations, operations_if}
+use Rattle.syntax.specs.Lists.{Kind, operations_if}
 use Rattle.syntax.specs.Context.{is_b, is_sp, is_si, has_l0, is_there, is_there_too, sequence_id_for, context_for, has_chroma, order_type, has_cabac, is_weighted, qp_fits, qs_fits, is_changing}
 use Rattle.syntax.specs.declared.context.UnitKind.{UnitKind}
 use Rattle.syntax.specs.declared.context.Context.{Context}
