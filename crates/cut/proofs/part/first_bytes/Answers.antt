@@ -1,7 +1,6 @@
 use mathlib.Core.Path.{sym}
 use lib.Seq.{length-take-le}
 use Rattle.cut.proofs.Firsts.{first_read, first-none}
-use borrow.Author.Rules.{rules}
 use Rattle.cut.proofs.part.first_bytes.Goals as goal
 
 pub slice_bounds-unescape-end : goal.slice_bounds-unescape-end

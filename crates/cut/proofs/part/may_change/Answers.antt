@@ -1,4 +1,3 @@
-use borrow.Author.Rules.{rules}
 use Rattle.cut.proofs.part.may_change.Goals as goal
 
 pub returns : goal.returns

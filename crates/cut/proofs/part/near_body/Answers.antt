@@ -1,5 +1,4 @@
 use Rattle.cut.proofs.Firsts.{near-short}
-use borrow.Author.Rules.{rules}
 use Rattle.cut.proofs.part.near_body.Goals as goal
 
 pub returns-then-n-lt-NEAR : goal.returns-then-n-lt-NEAR

@@ -1,11 +1,7 @@
 use native.Mathlib.Omega.{arith}
-use Prim.Native.Nat.{◌-◌, ◌≤◌}
 use native.Mathlib.Numerals.{add-one}
-use mathlib.Core.Path.{◌≡◌, refl, sym, ◌∙◌}
-use lib.ListN.{length, get_or, drop}
-use Rattle.bits.specs.Bits.{bytes_bits}
-use Rattle.escape.specs.Body.{body}
-use Rattle.syntax.specs.SliceHeader.{any_set}
+use mathlib.Core.Path.{refl, sym, ◌∙◌}
+use lib.ListN.{get_or}
 use Rattle.cut.proofs.Bytes.{zeros-few, kept-none, kept_set, kept-end}
 use borrow.Author.Rules.{rules}
 use Rattle.cut.proofs.rest.any_kept.Goals as goal

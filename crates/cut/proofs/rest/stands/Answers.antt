@@ -1,4 +1,3 @@
-use borrow.Author.Rules.{rules}
 use Rattle.cut.proofs.rest.stands.Goals as goal
 
 pub returns : goal.returns

@@ -1,11 +1,8 @@
 use native.Mathlib.Omega.{arith}
-use Prim.Native.Nat.{◌-◌, ◌≤◌}
 use native.Mathlib.Numerals.{add-one}
-use mathlib.Core.Path.{◌≡◌, refl, sym, ◌∙◌}
-use lib.ListN.{get_or, take, drop}
-use Rattle.cut.specs.Seam.{zeros_over}
+use mathlib.Core.Path.{refl, sym, ◌∙◌}
+use lib.ListN.{get_or}
 use Rattle.cut.proofs.Bytes.{zeros-few, zeros-more, zeros-end}
-use borrow.Author.Rules.{rules}
 use Rattle.cut.proofs.rest.zeros_before.Goals as goal
 
 pub loop-i-init : goal.loop-i-init

@@ -1,11 +1,7 @@
-use native.Mathlib.Omega.{arith}
 use Prim.Native.Nat.{◌-◌, ◌≤◌}
-use native.Mathlib.Numerals.{add-one}
-use mathlib.Core.Path.{◌≡◌, refl, sym, ◌∙◌}
-use lib.ListN.{get_or, take, drop}
+use mathlib.Core.Path.{◌≡◌}
+use lib.ListN.{take, drop}
 use Rattle.cut.specs.Seam.{zeros_over}
-use Rattle.cut.proofs.Bytes.{zeros-few, zeros-more, zeros-end}
-use borrow.Author.Rules.{rules}
 use Rattle.cut.proofs.rest.zeros_before.Given as goal
 
 abbrev pub invariant-loop-i : goal.invariant-loop-i

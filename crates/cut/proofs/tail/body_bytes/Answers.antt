@@ -1,9 +1,7 @@
 use native.Mathlib.Omega.{arith}
-use Prim.Native.Nat.{◌+◌, ◌-◌, ◌≤◌}
 use native.Mathlib.Numerals.{add-one}
-use mathlib.Core.Path.{◌≡◌, ap}
-use lib.ListN.{length, get_or, drop}
-use Rattle.escape.specs.Body.{body}
+use mathlib.Core.Path.{ap}
+use lib.ListN.{length, get_or}
 use Rattle.cut.proofs.Bytes.{zeros-few}
 use Rattle.cut.proofs.Tails.{next-length, none_left, few-kept}
 use borrow.Author.Rules.{rules}

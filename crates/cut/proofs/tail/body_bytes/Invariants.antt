@@ -1,12 +1,7 @@
-use native.Mathlib.Omega.{arith}
 use Prim.Native.Nat.{◌+◌, ◌-◌, ◌≤◌}
-use native.Mathlib.Numerals.{add-one}
-use mathlib.Core.Path.{◌≡◌, ap}
-use lib.ListN.{length, get_or, drop}
+use mathlib.Core.Path.{◌≡◌}
+use lib.ListN.{length, drop}
 use Rattle.escape.specs.Body.{body}
-use Rattle.cut.proofs.Bytes.{zeros-few}
-use Rattle.cut.proofs.Tails.{next-length, none_left, few-kept}
-use borrow.Author.Rules.{rules}
 use Rattle.cut.proofs.tail.body_bytes.Given as goal
 
 abbrev pub invariant-loop-i : goal.invariant-loop-i

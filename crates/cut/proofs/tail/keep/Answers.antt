@@ -1,6 +1,5 @@
 use mathlib.Core.Path.{refl, sym, ◌∙◌}
 use native.Mathlib.Omega.{arith}
-use borrow.Author.Rules.{rules}
 use Rattle.cut.proofs.tail.keep.Goals as goal
 
 pub returns-then-is_dropped : goal.returns-then-is_dropped

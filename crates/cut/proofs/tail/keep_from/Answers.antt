@@ -1,11 +1,10 @@
 use native.Mathlib.Omega.{arith}
-use Prim.Native.Nat.{◌-◌, ◌≤◌}
 use native.Mathlib.Numerals.{add-one}
-use mathlib.Core.Path.{◌≡◌, refl, ◌∙◌}
-use lib.ListN.{length, get_or, drop}
+use mathlib.Core.Path.{refl, ◌∙◌}
+use lib.ListN.{get_or, drop}
 use Rattle.escape.specs.Body.{drops, body}
 use Rattle.cut.proofs.Bytes.{zeros-few}
-use Rattle.cut.proofs.Tails.{Stored, none-stored, store-next, stored-full, stored-all, none_left, few-kept, kept-room}
+use Rattle.cut.proofs.Tails.{none-stored, store-next, stored-full, stored-all, none_left, few-kept, kept-room}
 use borrow.Author.Rules.{rules}
 use Rattle.cut.proofs.tail.keep_from.Goals as goal
 

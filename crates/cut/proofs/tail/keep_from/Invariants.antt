@@ -1,12 +1,8 @@
-use native.Mathlib.Omega.{arith}
 use Prim.Native.Nat.{◌-◌, ◌≤◌}
-use native.Mathlib.Numerals.{add-one}
-use mathlib.Core.Path.{◌≡◌, refl, ◌∙◌}
-use lib.ListN.{length, get_or, drop}
-use Rattle.escape.specs.Body.{drops, body}
-use Rattle.cut.proofs.Bytes.{zeros-few}
-use Rattle.cut.proofs.Tails.{Stored, none-stored, store-next, stored-full, stored-all, none_left, few-kept, kept-room}
-use borrow.Author.Rules.{rules}
+use mathlib.Core.Path.{◌≡◌}
+use lib.ListN.{length, drop}
+use Rattle.escape.specs.Body.{body}
+use Rattle.cut.proofs.Tails.{Stored}
 use Rattle.cut.proofs.tail.keep_from.Given as goal
 
 abbrev pub invariant-loop-i : goal.invariant-loop-i

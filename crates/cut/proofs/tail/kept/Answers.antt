@@ -1,5 +1,4 @@
 use mathlib.Core.Path.{sym, ◌∙◌}
-use borrow.Author.Rules.{rules}
 use Rattle.cut.proofs.tail.kept.Goals as goal
 
 pub returns-then-is_dropped : goal.returns-then-is_dropped

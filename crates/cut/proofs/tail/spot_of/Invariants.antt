@@ -1,12 +1,7 @@
-use native.Mathlib.Omega.{arith}
-use Prim.Native.Nat.{ℕ, ◌-◌, ◌≤◌}
-use mathlib.Core.Path.{◌≡◌, sym, ap, ◌∙◌}
-use lib.ListN.{length, get_or, drop}
+use Prim.Native.Nat.{◌-◌, ◌≤◌}
+use mathlib.Core.Path.{◌≡◌}
+use lib.ListN.{length, drop}
 use Rattle.escape.specs.Body.{body}
-use lib.Seq.{drop-nil}
-use Rattle.cut.proofs.Bytes.{zeros-few}
-use Rattle.cut.proofs.Tails.{none_left, few-kept, passed, passed_on}
-use borrow.Author.Rules.{rules}
 use Rattle.cut.proofs.tail.spot_of.Given as goal
 
 abbrev pub invariant-loop-i : goal.invariant-loop-i
