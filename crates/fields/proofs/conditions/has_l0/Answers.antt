@@ -1,4 +1,3 @@
-use borrow.Author.Rules.{rules}
 use Rattle.fields.proofs.conditions.has_l0.Goals as goal
 
 pub returns : goal.returns

@@ -1,4 +1,3 @@
-use borrow.Author.Rules.{rules}
 use Rattle.fields.proofs.conditions.is_weighted.Goals as goal
 
 pub returns : goal.returns

@@ -1,4 +1,3 @@
-use borrow.Author.Rules.{rules}
 use Rattle.fields.proofs.number.marked.Goals as goal
 
 pub returns-in-Got : goal.returns-in-Got

@@ -1,6 +1,5 @@
 use native.Mathlib.Omega.{arith}
 use Rattle.fields.proofs.Sums.{product-fits, minus-fits, minus_is}
-use borrow.Author.Rules.{rules}
 use Rattle.fields.proofs.quant.lowest.Goals as goal
 
 pub overflow_mul-result : goal.overflow_mul-result

@@ -8,7 +8,6 @@ use borrow.Author.Tests.{eq-eqb, ne_eqb}
 use Rattle.bits.specs.Answers.{as_read}
 use Rattle.fmt.specs.Leaves.{u}
 use Rattle.fields.proofs.Cases.{test-none, test-pass, test-fail}
-use borrow.Author.Rules.{rules}
 use Rattle.fields.proofs.read.colour_plane.Goals as goal
 
 pub returns-in_default : goal.returns-in_default

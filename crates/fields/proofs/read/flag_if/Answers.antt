@@ -1,7 +1,6 @@
 use mathlib.Core.Path.{◌∙◌}
 use Rattle.fmt.specs.Leaves.{flag}
 use Rattle.fields.proofs.Cases.{flag-there, flag-absent}
-use borrow.Author.Rules.{rules}
 use Rattle.fields.proofs.read.flag_if.Goals as goal
 
 pub returns-then-there : goal.returns-then-there

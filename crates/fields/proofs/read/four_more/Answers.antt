@@ -3,7 +3,6 @@ use Prim.Native.Nat.{◌+◌}
 use mathlib.Core.Path.{sym}
 use borrow.Author.Tests.{le-leb}
 use Rattle.fields.proofs.Cases.{counts-as-32}
-use borrow.Author.Rules.{rules}
 use Rattle.fields.proofs.read.four_more.Goals as goal
 
 pub returns-then-n-lt28 : goal.returns-then-n-lt28

@@ -1,6 +1,5 @@
 use Rattle.fmt.specs.Leaves.{flag}
 use Rattle.fields.proofs.Cases.{given-there, given-absent}
-use borrow.Author.Rules.{rules}
 use Rattle.fields.proofs.read.given_flag.Goals as goal
 
 pub returns-then-there : goal.returns-then-there

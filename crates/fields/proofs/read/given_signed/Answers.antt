@@ -1,5 +1,4 @@
 use Rattle.fields.proofs.Cases.{given-there, given-absent}
-use borrow.Author.Rules.{rules}
 use Rattle.fields.proofs.read.given_signed.Goals as goal
 
 pub returns-then-there : goal.returns-then-there

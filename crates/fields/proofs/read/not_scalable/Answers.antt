@@ -1,6 +1,5 @@
 use Rattle.fmt.specs.Fmt.{test, nothing}
 use Rattle.syntax.specs.SliceHeader.{not_scalable}
-use borrow.Author.Rules.{rules}
 use Rattle.fields.proofs.read.not_scalable.Goals as goal
 
 pub returns-then-x : goal.returns-then-x

@@ -1,7 +1,6 @@
 use mathlib.Core.Path.{◌∙◌}
 use Rattle.fmt.specs.Leaves.{ue}
 use Rattle.fields.proofs.Cases.{number-there, number-absent}
-use borrow.Author.Rules.{rules}
 use Rattle.fields.proofs.read.number_if.Goals as goal
 
 pub returns-then-there : goal.returns-then-there

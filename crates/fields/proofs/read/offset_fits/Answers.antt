@@ -1,5 +1,4 @@
 use Rattle.table.proofs.Signs.{wide_fits, wide_is}
-use borrow.Author.Rules.{rules}
 use Rattle.fields.proofs.read.offset_fits.Goals as goal
 
 pub overflow_cast-d : goal.overflow_cast-d

@@ -1,6 +1,5 @@
 use mathlib.Core.Path.{◌∙◌}
 use Rattle.fields.proofs.Cases.{signed-there, signed-absent}
-use borrow.Author.Rules.{rules}
 use Rattle.fields.proofs.read.signed_if.Goals as goal
 
 pub returns-then-there : goal.returns-then-there

@@ -7,7 +7,6 @@ use borrow.Author.Tests.{le-leb, lt-leb}
 use Rattle.bits.specs.Answers.{as_read}
 use Rattle.fmt.specs.Leaves.{ue}
 use Rattle.fields.proofs.Cases.{test-none, test-pass, test-fail}
-use borrow.Author.Rules.{rules}
 use Rattle.fields.proofs.read.tested.Goals as goal
 
 pub returns-in_default : goal.returns-in_default
