@@ -17,7 +17,7 @@ returns-in-Of c =
     let a = c.args in
     let u = c.unescape_known.ensures in
     let p = c.prefix_into.ensures in
-    body-taken _ _ (opened _ _ _ _ _ c.requires u.scratch_after (sym c.in-Of.is ∙ u.value) (prefix_bits a.kind)) a.base.now p.0 p.1 c.body_short.ensures
+    body-taken _ _ (opened _ _ _ _ _ c.requires u.scratch_after (sym c.in-Of.is ∙ u.value) (prefix_bits a.kind)) a.base.now p.value p.words_after c.body_short.ensures
 
 pub returns-in-Refused : goal.returns-in-Refused
 returns-in-Refused c =

@@ -1,5 +1,4 @@
 use mathlib.Core.Path.{sym, ◌∙◌}
-use borrow.Author.Tests.{not-true, not-false}
 use Rattle.header.specs.Lead.{table_of}
 use Rattle.unit.proofs.Begun.{begun-own}
 use Rattle.unit.proofs.Held.{refused-into}
@@ -10,14 +9,14 @@ use Rattle.unit.proofs.into.read_known_into.Goals as goal
 pub returns-then-not-is_head_of : goal.returns-then-not-is_head_of
 returns-then-not-is_head_of c =
     let a = c.args in
-    let e = sym c.is_head_of.ensures ∙ not-true _ c.if-not-is_head_of.true in
+    let e = sym c.is_head_of.ensures ∙ c.if-not-is_head_of.true in
     rw c.refuse.ensures (refused-into (known-other a.known (table_of a.sequences.now a.pictures.now) a.unit.now a.scratch.now a.head e) _ c.clear_words.ensures)
 
 pub read_into-requires : goal.read_into-requires
-read_into-requires c = begun-own _ _ (sym c.is_head_of.ensures ∙ not-false _ c.if-not-is_head_of.false)
+read_into-requires c = begun-own _ _ (sym c.is_head_of.ensures ∙ c.if-not-is_head_of.false)
 
 pub returns : goal.returns
 returns c =
     let a = c.args in
-    let e = sym c.is_head_of.ensures ∙ not-false _ c.if-not-is_head_of.false in
+    let e = sym c.is_head_of.ensures ∙ c.if-not-is_head_of.false in
     rw (known-own a.known (table_of a.sequences.now a.pictures.now) a.unit.now a.scratch.now a.head e) c.read_into.ensures

@@ -18,10 +18,10 @@ returns-in-Of c =
     let a = c.args in
     let u = c.unescape_known.ensures in
     let h = c.read_header_into.ensures in
-    slice_taken _ _ _ (opened _ _ _ _ _ c.requires u.1 (sym c.in-Of.is ∙ u.0) (slice_bits (table_of a.sequences.now a.pictures.now) a.kind)) (record { numbers = a.numbers.now; signed = a.signed.now; l0 = a.l0.now; l1 = a.l1.now; marking = a.marking.now; w0 = a.w0.now; w1 = a.w1.now }) h.0 h.1 c.slice_short.ensures
+    slice_taken _ _ _ (opened _ _ _ _ _ c.requires u.scratch_after (sym c.in-Of.is ∙ u.value) (slice_bits (table_of a.sequences.now a.pictures.now) a.kind)) (record { numbers = a.numbers.now; signed = a.signed.now; l0 = a.l0.now; l1 = a.l1.now; marking = a.marking.now; w0 = a.w0.now; w1 = a.w1.now }) h.value h.words c.slice_short.ensures
 
 pub returns-in-Refused : goal.returns-in-Refused
 returns-in-Refused c =
     let a = c.args in
     let u = c.unescape_known.ensures in
-    λ b. none-taken _ (closed _ _ _ _ _ c.requires u.1 (sym c.in-Refused.is ∙ u.0) (slice_bits (table_of a.sequences.now a.pictures.now) a.kind)) _ _
+    λ b. none-taken _ (closed _ _ _ _ _ c.requires u.scratch_after (sym c.in-Refused.is ∙ u.value) (slice_bits (table_of a.sequences.now a.pictures.now) a.kind)) _ _

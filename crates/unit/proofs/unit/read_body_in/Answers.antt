@@ -4,7 +4,7 @@ use borrow.Author.Rules.{rules}
 use Rattle.unit.proofs.unit.read_body_in.Goals as goal
 
 pub shape_of-scratch : goal.shape_of-scratch
-shape_of-scratch c = c.read_body_into-a.auto.1.1.1.1.0
+shape_of-scratch c = c.read_body_into-a.auto.scratch
 
 pub returns : goal.returns
 returns c =
