@@ -1,7 +1,7 @@
 /* example CLIP: the units of a recording, as `tuz list CLIP -q` prints them.
  * example CLIP kinds: what their first bytes say, as `tuz kinds CLIP -q` prints it.
  *
- *     cc -Iinclude include/example.c target/staticlib/libexports.a -o example
+ *     cc -Iinclude include/example.c crates/exports/out/libexports.a -o example
  */
 #include "tuzmarghil.h"
 

@@ -1,6 +1,6 @@
 /* tuzmarghil.h: H.264 slice headers, read and written by a proved library. Written by tools/header.py; do not edit.
  *
- * Link target/staticlib/libexports.a (`tools/archive` makes it), for x86-64 or aarch64 Linux. No function allocates, keeps anything or requires anything of what it is
+ * Link crates/exports/out/libexports.a (`tools/archive` makes it), for x86-64 or aarch64 Linux. No function allocates, keeps anything or requires anything of what it is
  * lent, but that pointers are those of live memory of the length that is told, and that what is written to does not overlap. A slice is a pointer and a length.
  * A result of over 16 bytes goes where the first argument points, on every machine.
  */

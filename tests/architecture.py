@@ -27,7 +27,7 @@ def listed():
         if line.startswith("#") and number:
             yield f"\n{line.lstrip('# ').rstrip('.:')}:\n"
         elif ":" in line and not line.startswith("#"):
-            crate = line.split(":")[0].strip()
+            crate = line.split(":")[0].split()[0]
             yield f"- `{crate}`: {sentence(crate)}."
 
 

@@ -191,7 +191,7 @@ def rows(page):
 
 def main():
     examples = tried()
-    listed = {line.split(":")[0].strip() for line in (ROOT / "crates.txt").read_text().splitlines() if ":" in line.split("#")[0]}
+    listed = {line.split(":")[0].split()[0] for line in (ROOT / "crates.txt").read_text().splitlines() if ":" in line.split("#")[0]}
     wrong, public = [], set()
     for crate in sorted(listed):
         sources = sorted((ROOT / "crates" / crate / "src").rglob("*.rt"))

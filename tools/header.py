@@ -17,7 +17,7 @@ BENCH = "tuz_ue_run"  # for the benchmark alone
 FRONT = """\
 /* tuzmarghil.h: H.264 slice headers, read and written by a proved library. Written by tools/header.py; do not edit.
  *
- * Link target/staticlib/libexports.a (`tools/archive` makes it), for x86-64 or aarch64 Linux. No function allocates, keeps anything or requires anything of what it is
+ * Link crates/exports/out/libexports.a (`tools/archive` makes it), for x86-64 or aarch64 Linux. No function allocates, keeps anything or requires anything of what it is
  * lent, but that pointers are those of live memory of the length that is told, and that what is written to does not overlap. A slice is a pointer and a length.
  * A result of over 16 bytes goes where the first argument points, on every machine.
  */
@@ -52,7 +52,7 @@ def comment(words):
 
 
 def marked(path, mark):
-    """What stands behind each line that is `mark`, up to a line that closes it, with the comment before it."""
+    """What stands behind each line that is `mark`, up to a line that closes it, without other attributes, and with the comment before it."""
     told, lines = [], iter(path.read_text().splitlines())
     for line in lines:
         if line.startswith("// "):
@@ -60,7 +60,8 @@ def marked(path, mark):
         elif line == mark:
             body = []
             for line in lines:
-                body.append(line)
+                if not line.startswith("#["):
+                    body.append(line)
                 if line.startswith(("}", "{", "    ensures", "    requires")):
                     break
             yield " ".join(told), " ".join(body)
@@ -142,7 +143,7 @@ def argument(records, name, kind):
 def functions(records):
     found, text = [], ""
     for path in sorted((ROOT / "crates/exports/src").glob("*.rt")):
-        for told, body in marked(path, "#[no_mangle]"):
+        for told, body in marked(path, "#[unsafe(no_mangle)]"):
             name, rest = re.match(r'pub extern "C" fn (\w+)(.*)', body).groups()
             given, result = re.match(r".*?\((.*)\)(?: -> (\w+))?", re.split(r" {4}(?:ensures|requires) ", rest)[0]).groups()
             if name == BENCH:

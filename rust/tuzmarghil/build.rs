@@ -59,8 +59,16 @@ fn main() {
 /// The archive: the one that `TUZ_ARCHIVE` names, else one that is proved and built here.
 fn archive(root: &Path, name: &str) -> PathBuf {
     println!("cargo:rerun-if-env-changed=TUZ_ARCHIVE");
-    for path in ["crates", "crates.txt", "bench/native-archive"] {
-        println!("cargo:rerun-if-changed={}", root.join(path).display());
+    let mut sources = vec![root.join("crates.txt"), root.join("bench/native-archive")];
+    for entry in fs::read_dir(root.join("crates")).unwrap() {
+        let crate_folder = entry.unwrap().path();
+        // what rt makes lies beside them, in out/
+        for part in ["src", "specs", "proofs"] {
+            sources.extend(Some(crate_folder.join(part)).filter(|folder| folder.is_dir()));
+        }
+    }
+    for path in sources {
+        println!("cargo:rerun-if-changed={}", path.display());
     }
     if let Some(given) = env::var_os("TUZ_ARCHIVE").map(PathBuf::from) {
         println!("cargo:rerun-if-changed={}", given.display());
@@ -76,7 +84,7 @@ fn archive(root: &Path, name: &str) -> PathBuf {
         String::from_utf8_lossy(&done.stdout),
         String::from_utf8_lossy(&done.stderr)
     );
-    root.join("target/staticlib").join(name)
+    root.join("crates").join(EXPORTS).join("out").join(name)
 }
 
 /// The `#[repr(C)]` structs of a Rattle file, as Rust: they are Rust's own text but for `derive`, and comments become documentation.
@@ -99,11 +107,11 @@ fn records(file: &Path) -> String {
             text += &std::mem::take(&mut comment);
             text += "#[derive(Clone, Copy, Debug, PartialEq, Eq)]\n#[repr(C)]\n";
             inside = true;
-        } else if inside {
+        } else if inside && !line.starts_with("#[derive(") {
             text += line;
             text += "\n";
             inside = line != "}";
-        } else {
+        } else if !inside {
             comment.clear();
         }
     }
