@@ -1,4 +1,3 @@
-use borrow.Author.Tests.{not-true, not-false}
 use Rattle.record.specs.Record.{header_from}
 use Rattle.stacking.specs.Item.{header_item}
 use borrow.Author.Rules.{rules}
@@ -6,12 +5,12 @@ use Rattle.stacking.proofs.item.header_item.Goals as goal
 
 pub returns-then-not-is_plain : goal.returns-then-not-is_plain
 unfolding header_item
-returns-then-not-is_plain c = rw (← c.is_plain.ensures, not-true c.is_plain.result c.if-not-is_plain.true)
+returns-then-not-is_plain c = rw (← c.is_plain.ensures, c.if-not-is_plain.true)
 
 pub returns-then-is_redundant : goal.returns-then-is_redundant
 unfolding header_item header_from
-returns-then-is_redundant c = rw (← c.is_plain.ensures, not-false c.is_plain.result c.if-not-is_plain.false, ← c.order_count_of-o.ensures, ← c.is_redundant.ensures, c.if-is_redundant.true)
+returns-then-is_redundant c = rw (← c.is_plain.ensures, c.if-not-is_plain.false, ← c.order_count_of-o.ensures, ← c.is_redundant.ensures, c.if-is_redundant.true)
 
 pub returns : goal.returns
 unfolding header_item header_from
-returns c = rw (c.slice_of.ensures, ← c.is_plain.ensures, not-false c.is_plain.result c.if-not-is_plain.false, ← c.order_count_of-o.ensures, ← c.is_redundant.ensures, c.if-is_redundant.false)
+returns c = rw (c.slice_of.ensures, ← c.is_plain.ensures, c.if-not-is_plain.false, ← c.order_count_of-o.ensures, ← c.is_redundant.ensures, c.if-is_redundant.false)

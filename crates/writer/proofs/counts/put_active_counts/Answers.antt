@@ -4,9 +4,6 @@ use Rattle.syntax.specs.SliceHeader.{active_counts, active_minus1}
 use borrow.Author.Rules.{rules}
 use Rattle.writer.proofs.counts.put_active_counts.Goals as goal
 
-pub shape_of-d : goal.shape_of-d
-shape_of-d c = c.put_tested_if.auto.0 ∙ c.put_tested_if-c3.auto.0 ∙ c.put_flag_if-c2.auto.0 ∙ c.put_flag_if-c1.auto.0
-
 pub returns : goal.returns
 unfolding active_counts active_minus1
 returns c = shaped_to _ _ _ _ _ refl (on _ _ _ _ (rw c.is_type-b.ensures at c.put_flag_if-c1.ensures) (on _ _ _ _ (rw c.has_l0.ensures at c.put_flag_if-c2.ensures) (on _ _ _ _ c.put_tested_if-c3.ensures (rw (c.both.ensures, c.is_type-b.ensures) at c.put_tested_if.ensures))))

@@ -4,9 +4,6 @@ use Rattle.syntax.specs.SliceHeader.{filter}
 use borrow.Author.Rules.{rules}
 use Rattle.writer.proofs.filter.put_filter.Goals as goal
 
-pub shape_of-d : goal.shape_of-d
-shape_of-d c = c.put_bits_if.auto.0 ∙ c.put_offset_if-c3.auto.0 ∙ c.put_offset_if-c2.auto.0 ∙ c.put_tested_if-c1.auto.0
-
 pub returns : goal.returns
 unfolding filter
 returns c = shaped_to _ _ _ _ _ refl (on _ _ _ _ c.put_tested_if-c1.ensures (on _ _ _ _ (rw c.both-offsets.ensures at c.put_offset_if-c2.ensures) (on _ _ _ _ (rw c.both-offsets.ensures at c.put_offset_if-c3.ensures) c.put_bits_if.ensures)))

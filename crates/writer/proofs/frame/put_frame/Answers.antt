@@ -4,9 +4,6 @@ use Rattle.syntax.specs.SliceHeader.{frame}
 use borrow.Author.Rules.{rules}
 use Rattle.writer.proofs.frame.put_frame.Goals as goal
 
-pub shape_of-d : goal.shape_of-d
-shape_of-d c = c.put_number_if.auto.0 ∙ c.put_flag_if-c4.auto.0 ∙ c.put_flag_if-c3.auto.0 ∙ c.put_bits-c2.auto.0 ∙ c.put_colour_plane_if-c1.auto.0
-
 pub returns : goal.returns
 unfolding frame
 returns c = shaped_to _ _ _ _ _ refl (on _ _ _ _ c.put_colour_plane_if-c1.ensures (on _ _ _ _ c.put_bits-c2.ensures (on _ _ _ _ c.put_flag_if-c3.ensures (on _ _ _ _ c.put_flag_if-c4.ensures c.put_number_if.ensures))))

@@ -4,7 +4,7 @@ use Rattle.writer.proofs.given.kind_given.Goals as goal
 
 pub returns-in-Got : goal.returns-in-Got
 unfolding kind_given
-returns-in-Got c = rw (c.type-inv.ensures, ← c.new.ensures, c.in-Got.is)
+returns-in-Got c = rw (c.typed.ensures, ← c.new.ensures, c.in-Got.is)
 
 pub returns-in-Refused : goal.returns-in-Refused
 unfolding kind_given

@@ -1,8 +1,10 @@
 use Prim.Native.Nat.{◌<◌, ◌^◌}
+use mathlib.Core.Path.{◌≡◌}
+use mathlib.Core.Bool.{true, false}
 use native.Mathlib.Omega.{arith}
+use borrow.Author.Tests.{not-true, not-false}
 use mir.Facts.{to_z_pos}
 use mir.Syntax.{w64}
-use borrow.Author.Tests.{not-true, not-false}
 use Rattle.writer.specs.Given.{typed}
 use borrow.Author.Rules.{rules}
 use Rattle.writer.proofs.given.typed.Goals as goal
@@ -15,12 +17,16 @@ pub returns-then-not-either : goal.returns-then-not-either
 unfolding typed
 returns-then-not-either c =
     let n : c.id-t.result < 2 ^ 63 = omega arith in
-    rw (rw (to_z_pos w64 n) at c.refuse.ensures, ← c.nal_unit_type.ensures, ← c.id-t.ensures, ← c.either.ensures, c.if-either.false, ← c.either-2.ensures, not-true c.either-2.result c.if-not-either.true)
+    rw (rw (to_z_pos w64 n) at c.refuse.ensures, ← c.nal_unit_type.ensures, ← c.id-t.ensures, ← c.either.ensures, c.if-either.false, ← c.either-2.ensures, c.if-not-either.true)
 
 pub returns-then-not-x : goal.returns-then-not-x
 unfolding typed
-returns-then-not-x c = rw (c.refuse-then-not-x.ensures, ← c.nal_unit_type.ensures, ← c.id-t.ensures, ← c.either.ensures, c.if-either.false, ← c.either-2.ensures, not-false c.either-2.result c.if-not-either.false, not-true c.args.x.there c.if-not-x.true)
+returns-then-not-x c =
+    let e : c.args.x.there ≡ false = not-true _ c.if-not-x.true in
+    rw (c.refuse-then-not-x.ensures, ← c.nal_unit_type.ensures, ← c.id-t.ensures, ← c.either.ensures, c.if-either.false, ← c.either-2.ensures, c.if-not-either.false, e)
 
 pub returns : goal.returns
 unfolding typed
-returns c = rw (c.with_extension.ensures, c.from_bytes.ensures, ← c.nal_unit_type.ensures, ← c.id-t.ensures, ← c.either.ensures, c.if-either.false, ← c.either-2.ensures, not-false c.either-2.result c.if-not-either.false, not-false c.args.x.there c.if-not-x.false)
+returns c =
+    let e : c.args.x.there ≡ true = not-false _ c.if-not-x.false in
+    rw (c.with_extension.ensures, c.from_bytes.ensures, ← c.nal_unit_type.ensures, ← c.id-t.ensures, ← c.either.ensures, c.if-either.false, ← c.either-2.ensures, c.if-not-either.false, e)

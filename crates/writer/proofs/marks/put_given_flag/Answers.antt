@@ -1,3 +1,5 @@
+use mathlib.Core.Path.{ap}
+use mathlib.Core.Bool.{not}
 use Rattle.writer.proofs.Fields.{given-there, given-absent, given-unfit}
 use borrow.Author.Rules.{rules}
 use Rattle.writer.proofs.marks.put_given_flag.Goals as goal
@@ -6,7 +8,7 @@ pub returns-then-there : goal.returns-then-there
 returns-then-there c = given-there _ _ _ _ _ c.if-there.true c.put_flag.ensures
 
 pub returns-then-not-v : goal.returns-then-not-v
-returns-then-not-v c = given-absent _ _ _ _ _ c.if-there.false c.if-not-v.true
+returns-then-not-v c = given-absent _ _ _ _ _ c.if-there.false (ap not c.if-not-v.true)
 
 pub returns-else-not-v : goal.returns-else-not-v
-returns-else-not-v c = given-unfit _ _ _ _ _ c.if-there.false c.if-not-v.false
+returns-else-not-v c = given-unfit _ _ _ _ _ c.if-there.false (ap not c.if-not-v.false)

@@ -46,9 +46,6 @@ bounds-numbers-32 c = search rules
 pub put_modification-requires : goal.put_modification-requires
 put_modification-requires c = search rules
 
-pub shape_of-d : goal.shape_of-d
-shape_of-d c = search rules
-
 pub returns : goal.returns
 unfolding modifications
 returns c = shaped_to _ _ _ _ _ refl (after _ _ _ _ (not-scalable _ c.if-x.false _ _) (on _ _ _ _ (rw (c.has_l0.ensures, c.flag_of-flag0.ensures) at c.put_modification-next.ensures) (rw (c.is_type.ensures, c.flag_of-flag1.ensures) at c.put_modification.ensures)))

@@ -18,9 +18,6 @@ offset_bounds-words-k c = omega (arith, c.requires, c.loop-i-test.true)
 pub bounds-words-k : goal.bounds-words-k
 bounds-words-k c = omega (arith, c.requires, c.loop-i-test.true)
 
-pub shape_of-d-then-code-kind : goal.shape_of-d-then-code-kind
-shape_of-d-then-code-kind c = c.loop-i.invariant.0
-
 pub returns-then-code-kind : goal.returns-then-code-kind
 returns-then-code-kind c = listing-closes _ _ _ _ _ c.loop-i.invariant.1 c.loop-i-test.true c.if-code-kind.true
 
@@ -49,10 +46,7 @@ pub loop-i-smaller : goal.loop-i-smaller
 loop-i-smaller c = omega (arith, c.loop-i-test.true)
 
 pub loop-i-preserved : goal.loop-i-preserved
-loop-i-preserved c = (c.put_operands-at.auto.0 ∙ c.put_tested-next.auto.0 ∙ c.loop-i.invariant.0, listing-next _ _ _ _ _ c.loop-i.invariant.1 c.loop-i-test.true c.if-code-kind.false c.put_tested-next.ensures c.put_operands-at.ensures)
-
-pub shape_of-d : goal.shape_of-d
-shape_of-d c = c.put_tested.auto.0 ∙ c.loop-i.invariant.0
+loop-i-preserved c = (c.put_operands-at.auto.d ∙ c.put_tested-next.auto.d ∙ c.loop-i.invariant.0, listing-next _ _ _ _ _ c.loop-i.invariant.1 c.loop-i-test.true c.if-code-kind.false c.put_tested-next.ensures c.put_operands-at.ensures)
 
 pub returns : goal.returns
 returns c = listing-closed _ _ _ _ _ c.loop-i.invariant.1 c.loop-i-test.false c.put_tested.ensures

@@ -6,9 +6,6 @@ use Rattle.writer.proofs.Fields.{given-there, given-absent, given-unfit}
 use borrow.Author.Rules.{rules}
 use Rattle.writer.proofs.operations.put_operations_if.Goals as goal
 
-pub shape_of-d-then-there : goal.shape_of-d-then-there
-shape_of-d-then-there c = c.put_operations.auto.0
-
 pub returns-then-there : goal.returns-then-there
 unfolding operations_if
 returns-then-there c = given-there _ _ _ _ _ c.if-there.true c.put_operations.ensures

@@ -3,7 +3,6 @@ use mathlib.Core.Path.{◌∙◌}
 use mir.Facts.{to_z-of_z}
 use mir.Syntax.{w32}
 use mir.Val.{SFits}
-use borrow.Author.Tests.{not-true, not-false}
 use Rattle.fmt.proofs.Puts.{shaped-none}
 use Rattle.writer.proofs.Fields.{marked, unmarked}
 use Rattle.writer.proofs.Stages.{leads-nowhere, on, shaped_to}
@@ -13,14 +12,11 @@ use Rattle.writer.proofs.order.put_deltas.Goals as goal
 
 pub returns-then-not-fitting : goal.returns-then-not-fitting
 unfolding deltas
-returns-then-not-fitting c = leads-nowhere (deltas c.args.x c.args.field) c.args.v (shaped-none _ _ _ _ _ (unmarked (order_type c.args.x 1) c.args.v.there c.fitting.ensures (not-true _ c.if-not-fitting.true)))
-
-pub shape_of-d : goal.shape_of-d
-shape_of-d c = c.put_given_signed.auto.0 ∙ c.put_given_signed-c1.auto.0
+returns-then-not-fitting c = leads-nowhere (deltas c.args.x c.args.field) c.args.v (shaped-none _ _ _ _ _ (unmarked (order_type c.args.x 1) c.args.v.there c.fitting.ensures c.if-not-fitting.true))
 
 pub returns : goal.returns
 unfolding deltas
 returns c =
     let f : SFits w32 c.args.v.first = search rules in
     let g : SFits w32 c.args.v.second = search rules in
-    shaped_to _ _ _ _ _ (marked (order_type c.args.x 1) c.args.v.there c.fitting.ensures (not-false _ c.if-not-fitting.false)) (on _ _ _ _ (rw (to_z-of_z f, c.both-first_there.ensures) at c.put_given_signed-c1.ensures) (rw (to_z-of_z g, c.both.ensures, c.both-first_there.ensures, c.both-bottom.ensures) at c.put_given_signed.ensures))
+    shaped_to _ _ _ _ _ (marked (order_type c.args.x 1) c.args.v.there c.fitting.ensures c.if-not-fitting.false) (on _ _ _ _ (rw (to_z-of_z f, c.both-first_there.ensures) at c.put_given_signed-c1.ensures) (rw (to_z-of_z g, c.both.ensures, c.both-first_there.ensures, c.both-bottom.ensures) at c.put_given_signed.ensures))

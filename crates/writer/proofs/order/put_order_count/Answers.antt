@@ -4,9 +4,6 @@ use Rattle.syntax.specs.SliceHeader.{order_count}
 use borrow.Author.Rules.{rules}
 use Rattle.writer.proofs.order.put_order_count.Goals as goal
 
-pub shape_of-d : goal.shape_of-d
-shape_of-d c = c.put_number_if.auto.0 ∙ c.put_deltas-c3.auto.0 ∙ c.put_signed_if-c2.auto.0 ∙ c.put_lsb_if-c1.auto.0
-
 pub returns : goal.returns
 unfolding order_count
 returns c = shaped_to _ _ _ _ _ refl (on _ _ _ _ c.put_lsb_if-c1.ensures (on _ _ _ _ (rw (c.both.ensures, c.both-bottom.ensures) at c.put_signed_if-c2.ensures) (on _ _ _ _ c.put_deltas-c3.ensures c.put_number_if.ensures)))

@@ -6,7 +6,6 @@ use lib.ListN.{get_or}
 use mir.Facts.{to_z-of_z}
 use mir.Syntax.{w32}
 use mir.Val.{SFits}
-use borrow.Author.Tests.{not-true, not-false}
 use borrow.Author.Rules.{rules, sfits_of}
 use Rattle.writer.proofs.PlainLoop.{Plain, flags_at, plain-none, plain-found, plain-next, plain-all}
 use Rattle.writer.proofs.plain.is_plain_weights.Goals as goal
@@ -32,17 +31,14 @@ offset_bounds-words-k-in-loop-i c = omega (arith, c.requires, c.loop-i-test.true
 pub bounds-words-k-in-loop-i : goal.bounds-words-k-in-loop-i
 bounds-words-k-in-loop-i c = omega (arith, c.requires, c.loop-i-test.true)
 
--- the flags of an entry, tested
-flags : (c : goal.After-both invariant-loop decreases-loop) → c.both.result ≡ flags_at c.before.before.before.before.before.before.before.args.words.now (8 * c.before.before.before.before.before.before.loop.i)
-flags c =
-    let w = c.before.before.before.before.before.before.before.args.words.now in
-    let k = 8 * c.before.before.before.before.before.before.loop.i in
-    let f0 : SFits w32 (get_or w k (pos 0)) = sfits_of c.before.before.before.before.is-bit-arg.given in
-    let f3 : SFits w32 (get_or w (k + 3) (pos 0)) = sfits_of c.before.before.is-bit-arg2.given in
-    c.both.ensures ∙ rw (c.before.before.before.is-bit.ensures, c.before.is-bit2.ensures, to_z-of_z f0, to_z-of_z f3)
-
 pub returns-then-not-both : goal.returns-then-not-both
-returns-then-not-both c = sym (plain-found _ _ c.loop-i.invariant c.loop-i-test.true (sym (flags c.before) ∙ not-true _ c.if-not-both.true))
+returns-then-not-both c =
+    let w = c.args.words.now in
+    let k = 8 * c.loop-i.i in
+    let f0 : SFits w32 (get_or w k (pos 0)) = search rules in
+    let f3 : SFits w32 (get_or w (k + 3) (pos 0)) = search rules in
+    let e : c.both.result ≡ flags_at w k = c.both.ensures ∙ rw (c.is_bit.ensures, c.is_bit-in-loop-i.ensures, to_z-of_z f0, to_z-of_z f3) in
+    sym (plain-found _ _ c.loop-i.invariant c.loop-i-test.true (sym e ∙ c.if-not-both.true))
 
 pub overflow_add-i : goal.overflow_add-i
 overflow_add-i c = omega (arith, c.requires, c.loop-i-test.true)
@@ -51,7 +47,13 @@ pub loop-i-smaller : goal.loop-i-smaller
 loop-i-smaller c = omega (arith, c.requires, c.loop-i-test.true)
 
 pub loop-i-preserved : goal.loop-i-preserved
-loop-i-preserved c = plain-next _ _ c.loop-i.invariant c.loop-i-test.true (sym (flags c.before) ∙ not-false _ c.if-not-both.false)
+loop-i-preserved c =
+    let w = c.args.words.now in
+    let k = 8 * c.loop-i.i in
+    let f0 : SFits w32 (get_or w k (pos 0)) = search rules in
+    let f3 : SFits w32 (get_or w (k + 3) (pos 0)) = search rules in
+    let e : c.both.result ≡ flags_at w k = c.both.ensures ∙ rw (c.is_bit.ensures, c.is_bit-in-loop-i.ensures, to_z-of_z f0, to_z-of_z f3) in
+    plain-next _ _ c.loop-i.invariant c.loop-i-test.true (sym e ∙ c.if-not-both.false)
 
 pub returns : goal.returns
 returns c = sym (plain-all _ _ c.loop-i.invariant c.loop-i-test.false)

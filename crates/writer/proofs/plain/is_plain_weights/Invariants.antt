@@ -6,7 +6,6 @@ use lib.ListN.{get_or}
 use mir.Facts.{to_z-of_z}
 use mir.Syntax.{w32}
 use mir.Val.{SFits}
-use borrow.Author.Tests.{not-true, not-false}
 use borrow.Author.Rules.{rules, sfits_of}
 use Rattle.writer.proofs.PlainLoop.{Plain, flags_at, plain-none, plain-found, plain-next, plain-all}
 use Rattle.writer.proofs.plain.is_plain_weights.Given as goal

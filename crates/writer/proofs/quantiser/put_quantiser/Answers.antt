@@ -7,9 +7,6 @@ use Rattle.syntax.specs.SliceHeader.{quantiser}
 use borrow.Author.Rules.{rules}
 use Rattle.writer.proofs.quantiser.put_quantiser.Goals as goal
 
-pub shape_of-d : goal.shape_of-d
-shape_of-d c = c.put_qs_if.auto.0 ∙ c.put_flag_if-c3.auto.0 ∙ c.put_qp-c2.auto.0 ∙ c.put_number_if-c1.auto.0
-
 pub returns : goal.returns
 unfolding quantiser
 returns c =

@@ -9,12 +9,12 @@ use borrow.Author.Rules.{rules}
 use Rattle.writer.proofs.weight_table.put_weight.Goals as goal
 
 -- signed fields come back from a call as they were
-fit : (c : goal.Start) → SFits w32 c.args.w.luma_weight × SFits w32 c.args.w.luma_offset
-fit c = (search rules, search rules)
-
-pub shape_of-d : goal.shape_of-d
-shape_of-d c = c.put_chroma_half.auto.0 ∙ c.put_given_signed-c3.auto.0 ∙ c.put_given_signed-c2.auto.0 ∙ c.put_flag-c1.auto.0
-
 pub returns : goal.returns
 unfolding weight chroma_half
-returns c = shaped_to _ _ _ _ _ refl (on _ _ _ _ c.put_flag-c1.ensures (on _ _ _ _ (rw (to_z-of_z (fit c.before.before.before.before.before.before.before.before.before.before.before.before.before.before.before.before.before.before.before).0) at c.put_given_signed-c2.ensures) (on _ _ _ _ (rw (to_z-of_z (fit c.before.before.before.before.before.before.before.before.before.before.before.before.before.before.before.before.before.before.before).1) at c.put_given_signed-c3.ensures) c.put_chroma_half.ensures)))
+returns c =
+    let w = c.args.w in
+    let f0 : SFits w32 w.luma_weight = search rules in
+    let f1 : SFits w32 w.luma_offset = search rules in
+    shaped_to _ _ _ _ _ refl
+    (on _ _ _ _ c.put_flag-c1.ensures
+    (on _ _ _ _ (rw (to_z-of_z f0) at c.put_given_signed-c2.ensures) (on _ _ _ _ (rw (to_z-of_z f1) at c.put_given_signed-c3.ensures) c.put_chroma_half.ensures)))

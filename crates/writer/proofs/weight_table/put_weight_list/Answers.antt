@@ -22,10 +22,7 @@ pub loop-i-smaller : goal.loop-i-smaller
 loop-i-smaller c = omega (arith, c.loop-i-test.true)
 
 pub loop-i-preserved : goal.loop-i-preserved
-loop-i-preserved c = (c.put_weight-at.auto.0 ∙ c.loop-i.invariant.0, (c.loop-i.invariant.1.0, weighing-next _ _ _ _ _ c.loop-i.invariant.1.1 c.loop-i-test.true (rw c.weight_at-w.ensures at c.put_weight-at.ensures)))
-
-pub shape_of-d : goal.shape_of-d
-shape_of-d c = c.loop-i.invariant.0
+loop-i-preserved c = (c.put_weight-at.auto.d ∙ c.loop-i.invariant.0, (c.loop-i.invariant.1.0, weighing-next _ _ _ _ _ c.loop-i.invariant.1.1 c.loop-i-test.true (rw c.weight_at-w.ensures at c.put_weight-at.ensures)))
 
 pub returns : goal.returns
 returns c = rw (← c.loop-i.invariant.1.0) (weighing-all _ _ _ _ _ c.loop-i.invariant.1.1 c.loop-i-test.false)

@@ -8,15 +8,12 @@ use borrow.Author.Rules.{rules}
 use Rattle.writer.proofs.whole.put_header.Goals as goal
 
 pub put_middle-requires : goal.put_middle-requires
-put_middle-requires c = c.requires.1
-
-pub shape_of-d : goal.shape_of-d
-shape_of-d c = c.put_middle.auto.0 ∙ c.put_active_counts-c4.auto.0 ∙ c.put_order_count-c3.auto.0 ∙ c.put_frame-c2.auto.0 ∙ c.put_lead-c1.auto.0
+put_middle-requires c = c.requires.plain
 
 pub returns : goal.returns
 unfolding parts header_from frame_from
 returns c =
-    let few = c.requires.0 in
+    let few = c.requires.num_ref_idx_l0_default_active_minus1_bound in
     (on _ _ _ _ c.put_lead-c1.ensures
     (on _ _ _ _ (rw c.frame_of.ensures at c.put_frame-c2.ensures)
     (on _ _ _ _ (rw c.order_count_of-o.ensures at c.put_order_count-c3.ensures)

@@ -14,9 +14,6 @@ put_pred_weight_table-c2-requires c = let k = plain-counts _ c.requires in (k.w0
 pub put_marking-c3-requires : goal.put_marking-c3-requires
 put_marking-c3-requires c = (plain-counts _ c.requires).marking
 
-pub shape_of-d : goal.shape_of-d
-shape_of-d c = c.put_back.auto.0 ∙ c.put_marking-c3.auto.0 ∙ c.put_pred_weight_table-c2.auto.0 ∙ c.put_modifications-c1.auto.0
-
 pub returns : goal.returns
 unfolding header_from
 returns c = on _ _ _ _ c.put_modifications-c1.ensures (on _ _ _ _ c.put_pred_weight_table-c2.ensures (on _ _ _ _ c.put_marking-c3.ensures (rw (c.quantiser_of-q.ensures, c.filter_of-f.ensures) at c.put_back.ensures)))

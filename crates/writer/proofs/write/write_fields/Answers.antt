@@ -9,23 +9,19 @@ use Rattle.writer.proofs.Known.{fields-done}
 use borrow.Author.Rules.{rules}
 use Rattle.writer.proofs.write.write_fields.Goals as goal
 
--- the words
-abbrev held : goal.Start → HeaderWords
-held c =
-    let a = c.args in
-    record { numbers = a.numbers.now; signed = a.signed.now; l0 = a.l0.now; l1 = a.l1.now; marking = a.marking.now; w0 = a.w0.now; w1 = a.w1.now }
-
 pub put_header-c-requires : goal.put_header-c-requires
-put_header-c-requires c = c.requires
+put_header-c-requires c = record { num_ref_idx_l0_default_active_minus1_bound = c.requires.0; plain = c.requires.1 }
 
 pub copy_out-requires : goal.copy_out-requires
-copy_out-requires c = let len = c.put_header-c.auto.0 ∙ length-replicate {A = ℕ} 256 0 in (omega (arith, len, c.if-at-le2048.true), omega (arith, len))
+copy_out-requires c = let len = c.put_header-c.auto.d ∙ length-replicate {A = ℕ} 256 0 in (omega (arith, len, c.if-at-le2048.true), omega (arith, len))
 
 pub returns-then-at-le2048 : goal.returns-then-at-le2048
 returns-then-at-le2048 c =
+    let a = c.args in
+    let h : HeaderWords = record { numbers = a.numbers.now; signed = a.signed.now; l0 = a.l0.now; l1 = a.l1.now; marking = a.marking.now; w0 = a.w0.now; w1 = a.w1.now } in
     let len = length-replicate {A = ℕ} 256 0 in
     let n : c.put_header-c.result.at < nowhere = omega (arith, c.if-at-le2048.true) in
-    rw (← fields-done c.args.x (header_from (held c.before.before.before.before.before.before.before.before.before.before)) (replicate 256 0) c.put_header-c.result n c.put_header-c.ensures c.args.out.now (omega (arith, len, c.if-at-le2048.true))) c.copy_out.ensures
+    rw (← fields-done c.args.x (header_from h) (replicate 256 0) c.put_header-c.result n c.put_header-c.ensures c.args.out.now (omega (arith, len, c.if-at-le2048.true))) c.copy_out.ensures
 
 pub write_long-requires : goal.write_long-requires
 write_long-requires c = c.requires

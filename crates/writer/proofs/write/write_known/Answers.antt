@@ -1,27 +1,33 @@
 use mathlib.Core.Path.{◌≡◌, refl, sym, ◌∙◌}
-use borrow.Author.Tests.{not-true, not-false}
+use mathlib.Core.Bool.{Bool, ◌&&◌}
+use lib.Dec.{eqb}
+use Rattle.syntax.specs.declared.context.Context.{Context}
 use Rattle.header.specs.Short.{HeaderWords}
-use Rattle.record.specs.Record.{plain, header_from}
+use Rattle.record.specs.Fields.{number_in}
+use Rattle.record.specs.Record.{plain, plain_numbers, plain_weights, header_from}
 use Rattle.writer.proofs.Known.{fitting, fitting-numbers, known-other, known-fields}
-use borrow.Author.Rules.{rules}
 use Rattle.writer.proofs.write.write_known.Goals as goal
 
--- the words
-abbrev held : goal.Start → HeaderWords
-held c =
-    let a = c.args in
-    record { numbers = a.numbers.now; signed = a.signed.now; l0 = a.l0.now; l1 = a.l1.now; marking = a.marking.now; w0 = a.w0.now; w1 = a.w1.now }
-
 -- what is tested first
-fits : (c : goal.After-both) → c.both.result ≡ fitting c.args.x (held c.before.before.before.before.before)
+fits : (x : Context) (w : HeaderWords) {b i : Bool} → b ≡ i && eqb (number_in w.numbers 3) x.picture.seq_parameter_set_id
+    → i ≡ plain_numbers w.numbers && (plain_weights (number_in w.numbers 37) w.w0 && plain_weights (number_in w.numbers 38) w.w1) → b ≡ fitting x w
 unfolding plain header_from
-fits c = c.both.ensures ∙ rw c.is_plain.ensures
+fits x w e f = e ∙ rw f
 
 pub returns-then-not-both : goal.returns-then-not-both
-returns-then-not-both c = rw (c.refuse.ensures, known-other c.args.x (held c.before.before.before.before.before.before.before) c.args.out.now (sym (fits c.before.before) ∙ not-true _ c.if-not-both.true)) (refl, refl)
+returns-then-not-both c =
+    let a = c.args in
+    let w : HeaderWords = record { numbers = a.numbers.now; signed = a.signed.now; l0 = a.l0.now; l1 = a.l1.now; marking = a.marking.now; w0 = a.w0.now; w1 = a.w1.now } in
+    rw (c.refuse.ensures, known-other a.x w a.out.now (sym (fits a.x w c.both.ensures c.is_plain.ensures) ∙ c.if-not-both.true)) (refl, refl)
 
 pub write_fields-requires : goal.write_fields-requires
-write_fields-requires c = (c.requires, fitting-numbers c.args.x (held c.before.before.before.before.before.before.before) (sym (fits c.before.before) ∙ not-false _ c.if-not-both.false))
+write_fields-requires c =
+    let a = c.args in
+    let w : HeaderWords = record { numbers = a.numbers.now; signed = a.signed.now; l0 = a.l0.now; l1 = a.l1.now; marking = a.marking.now; w0 = a.w0.now; w1 = a.w1.now } in
+    (c.requires, fitting-numbers a.x w (sym (fits a.x w c.both.ensures c.is_plain.ensures) ∙ c.if-not-both.false))
 
 pub returns : goal.returns
-returns c = rw (known-fields c.args.x (held c.before.before.before.before.before.before.before.before.before.before) c.args.out.now (sym (fits c.before.before.before.before.before) ∙ not-false _ c.if-not-both.false)) c.write_fields.ensures
+returns c =
+    let a = c.args in
+    let w : HeaderWords = record { numbers = a.numbers.now; signed = a.signed.now; l0 = a.l0.now; l1 = a.l1.now; marking = a.marking.now; w0 = a.w0.now; w1 = a.w1.now } in
+    rw (known-fields a.x w a.out.now (sym (fits a.x w c.both.ensures c.is_plain.ensures) ∙ c.if-not-both.false)) c.write_fields.ensures

@@ -8,12 +8,6 @@ use Rattle.writer.proofs.Known.{known-few, known_out_lem}
 use borrow.Author.Rules.{rules}
 use Rattle.writer.proofs.write.write_words_in.Goals as goal
 
--- the words
-abbrev held : goal.Start → HeaderWords
-held c =
-    let a = c.args in
-    record { numbers = a.numbers.now; signed = a.signed.now; l0 = a.l0.now; l1 = a.l1.now; marking = a.marking.now; w0 = a.w0.now; w1 = a.w1.now }
-
 pub enum_told-1 : goal.enum_told-1
 enum_told-1 c = search rules
 
@@ -35,5 +29,6 @@ pub returns : goal.returns
 unfolding write_words write_where header_from
 returns c =
     let a = c.args in
+    let w : HeaderWords = record { numbers = a.numbers.now; signed = a.signed.now; l0 = a.l0.now; l1 = a.l1.now; marking = a.marking.now; w0 = a.w0.now; w1 = a.w1.now } in
     let e = sym c.sets_for-a2.ensures ∙ c.in-There.is in
-    rw (← c.kind_given-a1.ensures, c.in-Of.is, e, ← known_out_lem (table_of a.sequences.now a.pictures.now) _ (held c.before.before.before.before.before.before.before.before.before.before.before.before.before.before) a.out.now _ _ _ e) c.write_known.ensures
+    rw (← c.kind_given-a1.ensures, c.in-Of.is, e, ← known_out_lem (table_of a.sequences.now a.pictures.now) _ w a.out.now _ _ _ e) c.write_known.ensures
