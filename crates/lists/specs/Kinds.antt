@@ -1,5 +1,5 @@
 -- The list's syntax that the code's description of it stands for.
-use Rattle.std.specs.Prelude.{ℕ, Bool, true, false, not, eqb}
+use Rattle.std.specs.Prelude.{true, false, not, eqb}
 use Rattle.bits.specs.Refusals.{pick}
 use Rattle.syntax.specs.Lists.{Kind}
 use Rattle.lists.specs.declared.operations.ListKind.{ListKind}

@@ -1,6 +1,6 @@
 -- The table by cases, absent and there, and its counts.
 use Prim.Native.Nat.{ℕ}
-use mathlib.Core.Path.{◌≡◌, refl}
+use mathlib.Core.Path.{◌≡◌}
 use mathlib.Core.Bool.{Bool, true, false}
 use Rattle.bits.specs.Refusals.{Res, got, bind, pick}
 use Rattle.bits.specs.Bits.{Bits}

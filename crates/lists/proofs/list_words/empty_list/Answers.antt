@@ -1,8 +1,7 @@
-use Prim.Native.Nat.{◌-◌}
 use native.Mathlib.Omega.{arith}
 use borrow.Author.Rules.{rules}
 use Rattle.lists.specs.ListsLent.{emptied_list}
-use Rattle.lists.proofs.Emptied.{Emptying, emptying-none, emptying-in, emptying-more, emptied, at-most-66}
+use Rattle.lists.proofs.Emptied.{emptying-none, emptying-in, emptying-more, emptied, at-most-66}
 use Rattle.lists.proofs.list_words.empty_list.Goals as goal
 
 pub loop-k-init : goal.loop-k-init

@@ -1,8 +1,5 @@
 use Prim.Native.Nat.{◌-◌}
-use native.Mathlib.Omega.{arith}
-use borrow.Author.Rules.{rules}
-use Rattle.lists.specs.ListsLent.{emptied_list}
-use Rattle.lists.proofs.Emptied.{Emptying, emptying-none, emptying-in, emptying-more, emptied, at-most-66}
+use Rattle.lists.proofs.Emptied.{Emptying}
 use Rattle.lists.proofs.list_words.empty_list.Given as goal
 
 abbrev pub invariant-loop-k : goal.invariant-loop-k

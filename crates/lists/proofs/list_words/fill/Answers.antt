@@ -1,7 +1,5 @@
-use borrow.Author.Rules.{rules}
-use Prim.Native.Nat.{◌-◌}
 use Rattle.bits.specs.Bits.{bits_of}
-use Rattle.lists.proofs.Reading.{Reading, started, no_code, ended, too_many, no-first, no_second, turned}
+use Rattle.lists.proofs.Reading.{started, no_code, ended, too_many, no-first, no_second, turned}
 use Rattle.lists.proofs.list_words.fill.Goals as goal
 
 pub loop-code-init : goal.loop-code-init

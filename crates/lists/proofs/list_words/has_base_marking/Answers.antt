@@ -1,5 +1,4 @@
 use Rattle.syntax.specs.Prefix.{has_base_marking}
-use borrow.Author.Rules.{rules}
 use Rattle.lists.proofs.list_words.has_base_marking.Goals as goal
 
 pub returns : goal.returns

@@ -1,4 +1,3 @@
-use borrow.Author.Rules.{rules}
 use Rattle.lists.proofs.modification.modification_kind.Goals as goal
 
 pub returns : goal.returns

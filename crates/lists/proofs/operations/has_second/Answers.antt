@@ -1,8 +1,4 @@
-use borrow.Author.Rules.{rules}
 use Rattle.lists.proofs.operations.has_second.Goals as goal
 
 pub returns-then-kind : goal.returns-then-kind
 returns-then-kind c = rw c.if-kind.true
-
-pub returns-else-kind : goal.returns-else-kind
-returns-else-kind c = search rules

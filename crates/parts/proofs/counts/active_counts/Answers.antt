@@ -1,6 +1,5 @@
 use Rattle.fmt.specs.Fmt.{seq, shaped}
 use Rattle.syntax.specs.SliceHeader.{active_counts, active_minus1}
-use borrow.Author.Rules.{rules}
 use Rattle.parts.proofs.counts.active_counts.Goals as goal
 
 pub returns-in_default : goal.returns-in_default

@@ -1,6 +1,5 @@
 use Rattle.fmt.specs.Fmt.{seq, shaped}
 use Rattle.syntax.specs.SliceHeader.{filter}
-use borrow.Author.Rules.{rules}
 use Rattle.parts.proofs.filter.filter.Goals as goal
 
 pub returns-in_default : goal.returns-in_default

@@ -1,7 +1,6 @@
 use Rattle.fmt.specs.Fmt.{seq, shaped}
 use Rattle.fmt.specs.Leaves.{u}
 use Rattle.syntax.specs.SliceHeader.{frame}
-use borrow.Author.Rules.{rules}
 use Rattle.parts.proofs.frame.frame.Goals as goal
 
 pub returns-in_default : goal.returns-in_default

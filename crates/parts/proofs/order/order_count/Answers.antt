@@ -1,6 +1,5 @@
 use Rattle.fmt.specs.Fmt.{seq, shaped}
 use Rattle.syntax.specs.SliceHeader.{order_count}
-use borrow.Author.Rules.{rules}
 use Rattle.parts.proofs.order.order_count.Goals as goal
 
 pub returns-in_default : goal.returns-in_default

@@ -1,8 +1,4 @@
-use borrow.Author.Rules.{rules}
 use Rattle.parts.proofs.order.why_order_count.Goals as goal
 
 pub returns-in-Got : goal.returns-in-Got
 returns-in-Got c = rw c.in-Got.is c.no_refusal.ensures
-
-pub returns-in-Refused : goal.returns-in-Refused
-returns-in-Refused c = search rules

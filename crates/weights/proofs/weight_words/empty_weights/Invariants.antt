@@ -1,10 +1,6 @@
 use Prim.Native.Nat.{◌-◌}
-use native.Mathlib.Omega.{arith}
 use lib.IntN.{pos}
-use borrow.Author.Rules.{rules}
-use Rattle.weights.proofs.AtMost.{at-most-32}
-use Rattle.weights.specs.WeightsLent.{emptied_weights}
-use Rattle.lists.proofs.Emptied.{Emptying, emptying-none, emptying-in, emptying-more, emptied}
+use Rattle.lists.proofs.Emptied.{Emptying}
 use Rattle.weights.proofs.weight_words.empty_weights.Given as goal
 
 abbrev pub invariant-loop-k : goal.invariant-loop-k

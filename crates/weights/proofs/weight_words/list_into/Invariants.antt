@@ -1,12 +1,6 @@
 use Prim.Native.Nat.{◌-◌}
-use mathlib.Core.Path.{◌≡◌, ap, sym, ◌∙◌}
-use Rattle.bits.specs.Refusals.{got, no}
 use Rattle.bits.specs.Bits.{bits_of}
-use Rattle.syntax.specs.SliceHeader.{weight}
-use Rattle.weights.specs.Steps.{as_weight}
-use Rattle.weights.proofs.AtMost.{at-most-32}
-use Rattle.weights.proofs.Stored.{Stored, stored-none, stored_refused, stored-all, stored_more}
-use borrow.Author.Rules.{rules}
+use Rattle.weights.proofs.Stored.{Stored}
 use Rattle.weights.proofs.weight_words.list_into.Given as goal
 
 abbrev pub invariant-loop-i : goal.invariant-loop-i

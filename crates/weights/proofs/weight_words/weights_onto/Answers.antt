@@ -23,8 +23,7 @@ no_read e w t = sym e ∙ rw (w, t)
 no_number : {a : NumberStep} {m : Res MarkedNumber} {r q : Refusal} → as_number a ≡ m → r ≡ why_number a → a ≡ NumberStep.Refused q → m ≡ no r
 no_number e w t = sym e ∙ rw (w, t)
 
--- from here on the table is there
-
+-- From here on the table is there, which is what h says.
 pub returns-in_default : goal.returns-in_default
 unfolding ue
 returns-in_default c =

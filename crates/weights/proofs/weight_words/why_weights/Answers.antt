@@ -1,8 +1,4 @@
-use borrow.Author.Rules.{rules}
 use Rattle.weights.proofs.weight_words.why_weights.Goals as goal
 
 pub returns-in-Got : goal.returns-in-Got
 returns-in-Got c = rw c.in-Got.is c.no_refusal.ensures
-
-pub returns-in-Refused : goal.returns-in-Refused
-returns-in-Refused c = search rules
