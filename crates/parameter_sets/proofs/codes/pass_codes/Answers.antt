@@ -1,8 +1,6 @@
-use mathlib.Core.Path.{◌≡◌, refl, sym, ap, ◌∙◌}
+use mathlib.Core.Path.{refl, sym, ap, ◌∙◌}
 use Rattle.bits.specs.Answers.{as_read}
-use Rattle.bits.specs.Bits.{bits_of}
 use Rattle.fmt.specs.Leaves.{ue}
-use Rattle.fmt.specs.Reads.{passes}
 use native.Mathlib.Omega.{arith}
 use Rattle.parameter_sets.proofs.Passing.{passed_none, passed-one, passed-no}
 use borrow.Author.Rules.{rules}

@@ -1,4 +1,3 @@
-use mathlib.Core.Path.{sym, ◌∙◌}
 use Rattle.fmt.specs.Reads.{next}
 use Rattle.parameter_sets.proofs.PictureParts.{picture-parts}
 use borrow.Author.Rules.{rules}
