@@ -15,9 +15,6 @@ loop-left-init c = (lit≤ tt, refl)
 pub returns-then-scale-eq0 : goal.returns-then-scale-eq0
 returns-then-scale-eq0 c = list-zero _ _ _ _ _ c.if-scale-eq0.true ∙ c.loop-left.invariant.1
 
-pub enum_told-1 : goal.enum_told-1
-enum_told-1 c = search rules
-
 pub returns-in_default : goal.returns-in_default
 returns-in_default c = let w = sym c.within-a.ensures ∙ ap as_given c.in_default.is in rw (c.why_given.ensures, c.in_default.is) (list-no _ _ _ _ _ c.loop-left-test.true c.if-scale-eq0.false w ∙ c.loop-left.invariant.1)
 
