@@ -13,7 +13,7 @@ use Rattle.bits.specs.Bits.{Bits}
 use Rattle.fmt.specs.Fmt.{Fmt}
 use Rattle.fmt.specs.Leaves.{flag, u, ue, se}
 use Rattle.fmt.specs.Reads.{Reads, found, next, read_if, passes}
-use Rattle.fmt.proofs.Ahead.{Onward, same, on_room, further, on-bind, Ahead, u-ahead, u-ahead-32, flag-ahead, ue-ahead, se-ahead, test-ahead}
+use Rattle.fmt.proofs.Ahead.{Onward, same, on_room, further, on-bind, Ahead, u-ahead-32, flag-ahead, ue-ahead, se-ahead, test-ahead}
 use Rattle.parameter_sets.specs.SequenceSet.{up_to, within}
 
 -- F looks at no more than n bits

@@ -1,6 +1,6 @@
 -- Reading at a later place of more bits: the answer is the same, with its places moved; and no place is behind the bits. One law for each way to read.
 use Prim.Native.Nat.{ℕ, zero, suc, ◌+◌, ◌-◌, ◌*◌, ◌^◌, ◌≤◌, ◌<◌}
-use mathlib.Core.Path.{◌≡◌, refl, sym, ap, ◌∙◌}
+use mathlib.Core.Path.{◌≡◌, refl}
 use mathlib.Core.List.{[], ◌∷◌}
 use mathlib.Core.Bool.{Bool, true, false}
 use native.Mathlib.Omega.{arith}
@@ -10,7 +10,7 @@ use lib.IntN.{ℤ, pos}
 use lib.ListN.{length, take, drop, length-drop}
 use lib.Seq.{drop-drop}
 use Rattle.bits.specs.declared.refusals.Refusal.{Refusal}
-use Rattle.bits.specs.Refusals.{Res, got, no, bind, pick, refusal_at, ran_out, too_many_zeros}
+use Rattle.bits.specs.Refusals.{Res, got, no, bind, pick, refusal_at, ran_out}
 use Rattle.bits.specs.Bits.{Bits, number_of, field}
 use Rattle.bits.specs.Codes.{width_of, fixed_at, suffix_at, code_at, ue_at}
 use Rattle.fmt.specs.Fmt.{Fmt, test}

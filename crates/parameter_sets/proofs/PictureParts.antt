@@ -1,6 +1,6 @@
 -- A picture set in parts: what stands before the ids, the ids, and what stands behind them are the set.
 use Prim.Native.Nat.{ℕ, ◌+◌, ◌-◌, ◌*◌, ◌/◌, ◌≤◌, ◌<◌}
-use mathlib.Core.Path.{◌≡◌, refl, sym, ap, ◌∙◌}
+use mathlib.Core.Path.{◌≡◌, refl, sym}
 use mathlib.Core.Bool.{Bool, true, false}
 use native.Mathlib.Omega.{arith}
 use borrow.Author.Tests.{eqb-true, le-leb, lt-leb, leb-true, leb-false}
@@ -16,7 +16,6 @@ use Rattle.fields.specs.declared.step.End.{End}
 use Rattle.fields.specs.Steps.{as_end}
 use Rattle.parameter_sets.specs.declared.groups.Groups.{Groups}
 use Rattle.parameter_sets.specs.declared.picture.PictureLead.{PictureLead}
-use Rattle.parameter_sets.specs.declared.picture.PictureSet.{PictureSet}
 use Rattle.parameter_sets.specs.SequenceSet.{up_to}
 use Rattle.parameter_sets.specs.PictureSet.{group_id_bits, group_ids, group_map, slice_groups, picture_lead, picture_set}
 use Rattle.parameter_sets.specs.PictureParts.{no_ids, ids_start, groups_start, picture_start, id_count, id_bits, ids_end, picture_rest}

@@ -3,11 +3,10 @@ use Prim.Native.Nat.{ℕ, zero, suc, ◌+◌, ◌*◌, ◌≤◌}
 use mathlib.Core.Path.{◌≡◌, sym, ◌∙◌}
 use mathlib.Core.Bool.{Bool, true, false, ◌&&◌, true≢false}
 use native.Mathlib.Omega.{arith}
-use native.Mathlib.Nat.{suc-mul, mul-le-mul_right}
+use native.Mathlib.Nat.{suc-mul}
 use lib.Dec.{eqb, leb, ltb}
 use Rattle.bits.specs.Refusals.{pick}
 use Rattle.fmt.specs.Leaves.{ue}
-use Rattle.fmt.specs.Reads.{Reads}
 use Rattle.fmt.proofs.Ahead.{u-ahead, ue-ahead, seq-ahead, test-ahead}
 use Rattle.parameter_sets.specs.declared.picture.PictureStart.{PictureStart}
 use Rattle.parameter_sets.specs.SequenceSet.{sequence_lead, scaling_list, scaling_lists, scaling_matrix, chroma, cycle, order, size, sequence_set}

@@ -1,7 +1,6 @@
 -- A picture set in parts, for whoever does not hold its bits in one piece: what stands before slice_group_id, the ids, and what stands behind them
 -- (`picture-parts` in proofs/PictureParts.antt: in turn they are the set).
 use Rattle.std.specs.Prelude.{ℕ, ◌+◌, ◌-◌, ◌*◌, ◌/◌, true, false, eqb, leb, ltb, pos}
-use Rattle.bits.specs.declared.read.Cursor.{Cursor}
 use Rattle.bits.specs.declared.refusals.Refusal.{Refusal}
 use Rattle.bits.specs.Refusals.{Res, got, no, pick, refusal_at, ran_out}
 use Rattle.fmt.specs.Leaves.{ue}

@@ -1,6 +1,5 @@
 use Rattle.fmt.specs.Leaves.{flag}
 use Rattle.parameter_sets.proofs.Passing.{read-there, read-absent}
-use borrow.Author.Rules.{rules}
 use Rattle.parameter_sets.proofs.codes.flag_given.Goals as goal
 
 pub returns-then-there : goal.returns-then-there

@@ -1,18 +1,12 @@
-use mathlib.Core.Path.{◌≡◌, refl, sym, ap, ◌∙◌}
+use mathlib.Core.Path.{refl, sym, ap, ◌∙◌}
 use Rattle.bits.specs.Answers.{as_read}
-use Rattle.bits.specs.Bits.{bits_of}
 use Rattle.fmt.specs.Leaves.{ue}
-use Rattle.fmt.specs.Reads.{passes}
 use native.Mathlib.Omega.{arith}
 use Rattle.parameter_sets.proofs.Passing.{passed_none, passed-one, passed-no}
-use borrow.Author.Rules.{rules}
 use Rattle.parameter_sets.proofs.codes.pass_codes.Goals as goal
 
 pub loop-left-init : goal.loop-left-init
 loop-left-init c = refl
-
-pub enum_told-1 : goal.enum_told-1
-enum_told-1 c = search rules
 
 pub returns-in_default : goal.returns-in_default
 unfolding ue

@@ -1,11 +1,7 @@
-use mathlib.Core.Path.{◌≡◌, refl, sym, ap, ◌∙◌}
-use Rattle.bits.specs.Answers.{as_read}
+use mathlib.Core.Path.{◌≡◌}
 use Rattle.bits.specs.Bits.{bits_of}
 use Rattle.fmt.specs.Leaves.{ue}
 use Rattle.fmt.specs.Reads.{passes}
-use native.Mathlib.Omega.{arith}
-use Rattle.parameter_sets.proofs.Passing.{passed_none, passed-one, passed-no}
-use borrow.Author.Rules.{rules}
 use Rattle.parameter_sets.proofs.codes.pass_codes.Given as goal
 
 abbrev pub invariant-loop-left : goal.invariant-loop-left

@@ -9,9 +9,6 @@ use Rattle.parameter_sets.proofs.Passing.{signed-given}
 use borrow.Author.Rules.{rules}
 use Rattle.parameter_sets.proofs.codes.within.Goals as goal
 
-pub enum_told-1 : goal.enum_told-1
-enum_told-1 c = search rules
-
 pub returns-in_default : goal.returns-in_default
 unfolding within
 returns-in_default c = test-none _ _ _ _ _ _ (c.given_signed-a.ensures ∙ signed-given _ _) (ap as_given c.in_default.is)

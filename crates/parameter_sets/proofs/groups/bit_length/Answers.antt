@@ -1,7 +1,6 @@
 use native.Mathlib.Omega.{arith}
 use Rattle.bits.proofs.Slices.{reached-le}
 use Rattle.parameter_sets.proofs.Ids.{within-bits}
-use borrow.Author.Rules.{rules}
 use Rattle.parameter_sets.proofs.groups.bit_length.Goals as goal
 
 pub overflow_mul-result : goal.overflow_mul-result

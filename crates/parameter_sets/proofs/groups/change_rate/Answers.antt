@@ -5,11 +5,7 @@ use Rattle.fmt.specs.Reads.{found, next}
 use Rattle.fmt.specs.Leaves.{flag}
 use Rattle.parameter_sets.specs.PictureSet.{change_rate}
 use Rattle.parameter_sets.proofs.Passing.{up-passed}
-use borrow.Author.Rules.{rules}
 use Rattle.parameter_sets.proofs.groups.change_rate.Goals as goal
-
-pub enum_told-1 : goal.enum_told-1
-enum_told-1 c = search rules
 
 pub returns-in_default : goal.returns-in_default
 unfolding change_rate next found flag

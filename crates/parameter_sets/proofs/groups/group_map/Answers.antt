@@ -2,7 +2,6 @@ use borrow.Author.Tests.{eq-eqb, ne_eqb}
 use Rattle.fmt.specs.Reads.{found, next}
 use Rattle.parameter_sets.specs.PictureSet.{group_map}
 use Rattle.parameter_sets.proofs.Pairs.{pairs}
-use borrow.Author.Rules.{rules}
 use Rattle.parameter_sets.proofs.groups.group_map.Goals as goal
 
 pub returns-then-slice_group_map_type-eq0 : goal.returns-then-slice_group_map_type-eq0

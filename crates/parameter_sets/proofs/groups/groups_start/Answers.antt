@@ -5,11 +5,7 @@ use Rattle.bits.specs.Answers.{as_read}
 use Rattle.fmt.specs.Reads.{found, next, read_if}
 use Rattle.parameter_sets.specs.PictureParts.{groups_start}
 use Rattle.parameter_sets.proofs.Passing.{up-passed}
-use borrow.Author.Rules.{rules}
 use Rattle.parameter_sets.proofs.groups.groups_start.Goals as goal
-
-pub enum_told-1 : goal.enum_told-1
-enum_told-1 c = search rules
 
 pub returns-in_default : goal.returns-in_default
 unfolding groups_start next found read_if

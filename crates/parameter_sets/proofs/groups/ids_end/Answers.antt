@@ -1,7 +1,6 @@
 use native.Mathlib.Omega.{arith}
 use native.Mathlib.Nat.{mul-le-mul, div-mul-le_self}
 use Rattle.parameter_sets.proofs.PictureParts.{ends-in, ends-out}
-use borrow.Author.Rules.{rules}
 use Rattle.parameter_sets.proofs.groups.ids_end.Goals as goal
 
 pub overflow_mul-size : goal.overflow_mul-size

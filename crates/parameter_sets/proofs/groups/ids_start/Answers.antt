@@ -1,7 +1,6 @@
 use Rattle.fmt.specs.Reads.{found, next}
 use Rattle.fmt.specs.Leaves.{ue}
 use Rattle.parameter_sets.specs.PictureParts.{ids_start}
-use borrow.Author.Rules.{rules}
 use Rattle.parameter_sets.proofs.groups.ids_start.Goals as goal
 
 pub returns-in_default : goal.returns-in_default

@@ -1,4 +1,3 @@
-use borrow.Author.Rules.{rules}
 use Rattle.parameter_sets.proofs.groups.no_rate.Goals as goal
 
 pub returns-in-At : goal.returns-in-At

@@ -1,5 +1,4 @@
 use Rattle.parameter_sets.proofs.PictureParts.{ends-passed}
-use borrow.Author.Rules.{rules}
 use Rattle.parameter_sets.proofs.groups.pass_ids.Goals as goal
 
 pub returns : goal.returns

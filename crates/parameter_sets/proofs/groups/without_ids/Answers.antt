@@ -1,4 +1,3 @@
-use borrow.Author.Rules.{rules}
 use Rattle.parameter_sets.proofs.groups.without_ids.Goals as goal
 
 pub returns-in-Got : goal.returns-in-Got

@@ -7,9 +7,6 @@ use Rattle.parameter_sets.specs.PictureSet.{levels}
 use borrow.Author.Rules.{rules}
 use Rattle.parameter_sets.proofs.picture.picture_levels.Goals as goal
 
-pub enum_told-1 : goal.enum_told-1
-enum_told-1 c = search rules
-
 pub returns-in_default : goal.returns-in_default
 unfolding levels next found flag se
 returns-in_default c = rw (c.why_given.ensures, ← c.within-a1.ensures, c.in_default.is)

@@ -1,11 +1,7 @@
 use Rattle.fmt.specs.Reads.{found, next}
 use Rattle.fmt.specs.Leaves.{flag}
 use Rattle.parameter_sets.specs.PictureSet.{references}
-use borrow.Author.Rules.{rules}
 use Rattle.parameter_sets.proofs.picture.picture_references.Goals as goal
-
-pub enum_told-1 : goal.enum_told-1
-enum_told-1 c = search rules
 
 pub returns-in_default : goal.returns-in_default
 unfolding references next found flag

@@ -6,9 +6,6 @@ use Rattle.parameter_sets.specs.PictureParts.{picture_rest}
 use borrow.Author.Rules.{rules}
 use Rattle.parameter_sets.proofs.picture.picture_rest.Goals as goal
 
-pub enum_told-1 : goal.enum_told-1
-enum_told-1 c = search rules
-
 pub returns-in_default : goal.returns-in_default
 unfolding picture_rest next found
 returns-in_default c = rw (c.why_references.ensures, ← c.picture_references-a1.ensures, c.in_default.is)

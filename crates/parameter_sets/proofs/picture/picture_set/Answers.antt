@@ -1,11 +1,6 @@
-use mathlib.Core.Path.{sym, ◌∙◌}
 use Rattle.fmt.specs.Reads.{next}
 use Rattle.parameter_sets.proofs.PictureParts.{picture-parts}
-use borrow.Author.Rules.{rules}
 use Rattle.parameter_sets.proofs.picture.picture_set.Goals as goal
-
-pub enum_told-1 : goal.enum_told-1
-enum_told-1 c = search rules
 
 pub returns-in_default : goal.returns-in_default
 unfolding next

@@ -1,10 +1,6 @@
 use Rattle.fmt.specs.Reads.{found, next}
 use Rattle.parameter_sets.specs.PictureParts.{picture_start}
-use borrow.Author.Rules.{rules}
 use Rattle.parameter_sets.proofs.picture.picture_start.Goals as goal
-
-pub enum_told-1 : goal.enum_told-1
-enum_told-1 c = search rules
 
 pub returns-in_default : goal.returns-in_default
 unfolding picture_start next found

@@ -1,5 +1,4 @@
 use borrow.Author.Tests.{lt-ltb, le-ltb}
-use borrow.Author.Rules.{rules}
 use Rattle.parameter_sets.proofs.scaling.entries.Goals as goal
 
 pub returns-then-i-lt6 : goal.returns-then-i-lt6

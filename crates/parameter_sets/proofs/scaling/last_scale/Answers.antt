@@ -1,5 +1,4 @@
 use borrow.Author.Tests.{eq-eqb, ne_eqb}
-use borrow.Author.Rules.{rules}
 use Rattle.parameter_sets.proofs.scaling.last_scale.Goals as goal
 
 pub returns-then-scale-eq0 : goal.returns-then-scale-eq0

@@ -1,5 +1,4 @@
 use borrow.Author.Tests.{eq-eqb, ne_eqb}
-use borrow.Author.Rules.{rules}
 use Rattle.parameter_sets.proofs.scaling.lists.Goals as goal
 
 pub returns-then-chroma_format_idc-eq3 : goal.returns-then-chroma_format_idc-eq3

@@ -1,6 +1,5 @@
 use mir.Facts.{to_z-of_z, Fits-nat_abs}
 use Rattle.parameter_sets.proofs.ScalingLists.{first_fits, sum_fits, sum_is, sum-fine}
-use borrow.Author.Rules.{rules}
 use Rattle.parameter_sets.proofs.scaling.next_scale.Goals as goal
 
 pub overflow_add-result : goal.overflow_add-result

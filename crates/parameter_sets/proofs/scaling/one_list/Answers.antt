@@ -1,10 +1,6 @@
 use Rattle.fmt.specs.Leaves.{flag}
 use Rattle.fmt.specs.Reads.{found, next, read_if}
-use borrow.Author.Rules.{rules}
 use Rattle.parameter_sets.proofs.scaling.one_list.Goals as goal
-
-pub enum_told-1 : goal.enum_told-1
-enum_told-1 c = search rules
 
 pub returns-in_default : goal.returns-in_default
 unfolding next read_if found flag

@@ -1,13 +1,10 @@
-use Prim.Native.Nat.{◌≤◌}
-use mathlib.Core.Path.{◌≡◌, refl, sym, ap, ◌∙◌}
+use mathlib.Core.Path.{refl, sym, ap, ◌∙◌}
 use native.Mathlib.Omega.{arith}
 use lib.Dec.{lit≤}
 use mir.Facts.{to_z-of_z}
 use mir.Syntax.{w32}
 use mir.Val.{SFits}
-use Rattle.bits.specs.Bits.{bits_of}
 use Rattle.fields.specs.Steps.{as_given}
-use Rattle.parameter_sets.specs.SequenceSet.{scaling_list}
 use Rattle.parameter_sets.proofs.ScalingLists.{delta-in, list-none, list-zero, list-no, list-more, last-small, scale_small}
 use borrow.Author.Rules.{rules}
 use Rattle.parameter_sets.proofs.scaling.scaling_list.Goals as goal
@@ -17,9 +14,6 @@ loop-left-init c = (lit≤ tt, refl)
 
 pub returns-then-scale-eq0 : goal.returns-then-scale-eq0
 returns-then-scale-eq0 c = list-zero _ _ _ _ _ c.if-scale-eq0.true ∙ c.loop-left.invariant.1
-
-pub enum_told-1 : goal.enum_told-1
-enum_told-1 c = search rules
 
 pub returns-in_default : goal.returns-in_default
 returns-in_default c = let w = sym c.within-a.ensures ∙ ap as_given c.in_default.is in rw (c.why_given.ensures, c.in_default.is) (list-no _ _ _ _ _ c.loop-left-test.true c.if-scale-eq0.false w ∙ c.loop-left.invariant.1)

@@ -1,15 +1,7 @@
 use Prim.Native.Nat.{◌≤◌}
-use mathlib.Core.Path.{◌≡◌, refl, sym, ap, ◌∙◌}
-use native.Mathlib.Omega.{arith}
-use lib.Dec.{lit≤}
-use mir.Facts.{to_z-of_z}
-use mir.Syntax.{w32}
-use mir.Val.{SFits}
+use mathlib.Core.Path.{◌≡◌}
 use Rattle.bits.specs.Bits.{bits_of}
-use Rattle.fields.specs.Steps.{as_given}
 use Rattle.parameter_sets.specs.SequenceSet.{scaling_list}
-use Rattle.parameter_sets.proofs.ScalingLists.{delta-in, list-none, list-zero, list-no, list-more, last-small, scale_small}
-use borrow.Author.Rules.{rules}
 use Rattle.parameter_sets.proofs.scaling.scaling_list.Given as goal
 
 abbrev pub invariant-loop-left : goal.invariant-loop-left

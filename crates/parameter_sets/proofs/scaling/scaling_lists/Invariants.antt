@@ -1,13 +1,7 @@
 use Prim.Native.Nat.{◌-◌}
-use mathlib.Core.Path.{◌≡◌, refl, sym, ap, ◌∙◌}
-use native.Mathlib.Omega.{arith}
-use native.Mathlib.Nat.{sub-zero}
+use mathlib.Core.Path.{◌≡◌}
 use Rattle.bits.specs.Bits.{bits_of}
-use Rattle.fields.specs.declared.step.End.{End}
-use Rattle.fields.specs.Steps.{as_end}
 use Rattle.parameter_sets.specs.SequenceSet.{scaling_lists}
-use Rattle.parameter_sets.proofs.ScalingLists.{lists-none, lists-no, lists-more}
-use borrow.Author.Rules.{rules}
 use Rattle.parameter_sets.proofs.scaling.scaling_lists.Given as goal
 
 abbrev pub invariant-loop-i : goal.invariant-loop-i

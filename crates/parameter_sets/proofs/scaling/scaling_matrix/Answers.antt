@@ -1,11 +1,7 @@
 use Rattle.fmt.specs.Leaves.{flag}
 use Rattle.fmt.specs.Reads.{found, next, read_if}
 use Rattle.parameter_sets.specs.SequenceSet.{scaling_matrix}
-use borrow.Author.Rules.{rules}
 use Rattle.parameter_sets.proofs.scaling.scaling_matrix.Goals as goal
-
-pub enum_told-1 : goal.enum_told-1
-enum_told-1 c = search rules
 
 pub returns-in_default : goal.returns-in_default
 unfolding scaling_matrix next read_if found flag

@@ -1,5 +1,4 @@
 use Rattle.parameter_sets.proofs.Passing.{read-there, read-absent}
-use borrow.Author.Rules.{rules}
 use Rattle.parameter_sets.proofs.sequence.chroma_if.Goals as goal
 
 pub returns-then-there : goal.returns-then-there

@@ -3,11 +3,7 @@ use Rattle.fmt.specs.Reads.{found, next}
 use Rattle.bits.specs.Bits.{bits_of}
 use Rattle.parameter_sets.specs.SequenceSet.{cycle}
 use Rattle.parameter_sets.proofs.Passing.{passed-signed}
-use borrow.Author.Rules.{rules}
 use Rattle.parameter_sets.proofs.sequence.cycle.Goals as goal
-
-pub enum_told-1 : goal.enum_told-1
-enum_told-1 c = search rules
 
 pub returns-in_default : goal.returns-in_default
 unfolding cycle next found flag se

@@ -2,11 +2,7 @@ use mathlib.Core.Path.{sym, ap, ◌∙◌}
 use Rattle.bits.specs.Answers.{as_read}
 use Rattle.fmt.specs.Leaves.{ue}
 use Rattle.fields.proofs.Cases.{test-none, test-pass, test-fail}
-use borrow.Author.Rules.{rules}
 use Rattle.parameter_sets.proofs.sequence.height.Goals as goal
-
-pub enum_told-1 : goal.enum_told-1
-enum_told-1 c = search rules
 
 pub returns-in_default : goal.returns-in_default
 unfolding ue

@@ -1,4 +1,3 @@
-use borrow.Author.Rules.{rules}
 use Rattle.parameter_sets.proofs.sequence.is_high.Goals as goal
 
 pub returns : goal.returns

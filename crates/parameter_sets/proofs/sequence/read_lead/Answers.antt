@@ -1,11 +1,7 @@
 use Rattle.fmt.specs.Leaves.{u}
 use Rattle.fmt.specs.Reads.{found, next}
 use Rattle.parameter_sets.specs.SequenceSet.{sequence_lead}
-use borrow.Author.Rules.{rules}
 use Rattle.parameter_sets.proofs.sequence.read_lead.Goals as goal
-
-pub enum_told-1 : goal.enum_told-1
-enum_told-1 c = search rules
 
 pub returns-in_default : goal.returns-in_default
 unfolding sequence_lead next found u

@@ -4,11 +4,7 @@ use Rattle.bits.specs.Answers.{as_read}
 use Rattle.fmt.specs.Reads.{found, next}
 use Rattle.parameter_sets.specs.SequenceSet.{order}
 use Rattle.parameter_sets.proofs.Passing.{up-passed}
-use borrow.Author.Rules.{rules}
 use Rattle.parameter_sets.proofs.sequence.read_order.Goals as goal
-
-pub enum_told-1 : goal.enum_told-1
-enum_told-1 c = search rules
 
 pub returns-in_default : goal.returns-in_default
 unfolding order next found

@@ -1,10 +1,6 @@
 use Rattle.fmt.specs.Reads.{found, next}
 use Rattle.parameter_sets.specs.SequenceSet.{sequence_set}
-use borrow.Author.Rules.{rules}
 use Rattle.parameter_sets.proofs.sequence.sequence_set.Goals as goal
-
-pub enum_told-1 : goal.enum_told-1
-enum_told-1 c = search rules
 
 pub returns-in_default : goal.returns-in_default
 unfolding sequence_set next found
