@@ -5,15 +5,11 @@ listings.py           holds what the program prints on each recording to NAME.tx
                       a slow pipe, and a read and a write that fail
 listings.py --write   writes the files, by the model: look at what changed
 NAME.hex is the recording; those over 4,096 bytes are made here each time, from a seed.
-The program is target/bin/listing; where it is missing or older than its crates, `rt check listing` makes it. The kit's loader runs it, as `rt check` does, and on
-another processor than x86-64 the kit's emulator.
+The program is crates/listing/out/listing, as `rt ci` leaves it; where it is missing or older than its crates, `rt run` makes it.
 """
 import gzip
 import os
-import pathlib
-import platform
 import random
-import shutil
 import subprocess
 import sys
 import time
@@ -152,18 +148,14 @@ def recordings():
 
 
 def command():
-    """The program, as `rt check` runs it."""
+    """The program, as `rt ci` or `rt run` makes it."""
     newest = max(p.stat().st_mtime for c in ("lines", "list_steps", "listing", "walk", "unit") for p in (CRATES / c / "src").glob("*.rt"))
-    program = ROOT / "target/bin/listing"
+    program = CRATES / "listing/out/listing"
     if not program.exists() or program.stat().st_mtime < newest:
-        done = subprocess.run(["rt", "check", "listing"], cwd=ROOT, capture_output=True, text=True)
+        done = subprocess.run(["rt", "run"], cwd=CRATES / "listing", stdin=subprocess.DEVNULL, capture_output=True, text=True)
         if done.returncode:
-            sys.exit(done.stdout[-2000:] + "listings: the program is not proved, so there is none to run")
-    rt = pathlib.Path(shutil.which("rt")).resolve()
-    home = pathlib.Path(os.environ.get("RATTLE_HOME", rt.parent.parent))
-    tools = home / "on" / platform.machine() / "toolchain"
-    emulator = tools / "bin/qemu-x86_64"
-    return ([str(emulator)] if emulator.exists() else []) + [str(tools / "lib/ld-linux-x86-64.so.2"), "--library-path", str(tools / "lib"), str(program)]
+            sys.exit(done.stderr[-2000:] + "listings: the program is not proved, so there is none to run")
+    return [str(program)]
 
 
 def slow(program, s):

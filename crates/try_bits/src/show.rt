@@ -13,12 +13,7 @@ pub(crate) fn number(rt: &impl Print, n: u64) -> io::Result<()> {
 }
 
 pub(crate) fn signed(rt: &impl Print, n: i64) -> io::Result<()> {
-    if n < 0 {
-        text(rt, b"-")?;
-        number(rt, (-(n + 1)) as u64 + 1)
-    } else {
-        number(rt, n as u64)
-    }
+    rt.print(n)
 }
 
 pub(crate) fn bytes(rt: &impl Print, d: &[u8]) -> io::Result<()> {

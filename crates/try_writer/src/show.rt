@@ -15,7 +15,7 @@ fn value(rt: &impl Print, z: i64) -> io::Result<()> {
     if z < 0 {
         text(rt, b"below zero")
     } else {
-        number(rt, z as u64)
+        rt.print(z)
     }
 }
 

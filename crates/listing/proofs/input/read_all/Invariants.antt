@@ -5,7 +5,7 @@ use lib.ListN.{length}
 use Rattle.listing.proofs.input.read_all.Given as goal
 
 abbrev pub invariant-loop-done : goal.invariant-loop-done
-invariant-loop-done l = (length l.d ≡ length l.initial.d) × (l.done ≤ length l.d)
+invariant-loop-done o l = (length l.d ≡ length l.initial.d) × (l.done ≤ length l.d)
 
 abbrev pub decreases-loop-done : goal.decreases-loop-done
-decreases-loop-done l = length l.d - l.done
+decreases-loop-done o l = length l.d - l.done

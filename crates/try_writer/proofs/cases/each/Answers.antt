@@ -1,6 +1,0 @@
-use borrow.Author.Rules.{rules}
-use Prim.Native.Nat.{◌≤◌, ◌-◌}
-use Rattle.try_writer.proofs.cases.each.Goals as goal
-
-pub returns : goal.returns
-returns c = search rules
