@@ -1,4 +1,3 @@
-use borrow.Author.Rules.{rules}
 use native.Mathlib.Omega.{arith}
 use Rattle.scan.proofs.Clears.{clear-part}
 use Rattle.scan.proofs.blocks.pass_end.Goals as goal
@@ -10,6 +9,3 @@ returns-then-from-n c =
 
 pub returns-then-is_passed : goal.returns-then-is_passed
 returns-then-is_passed c = (omega arith, omega arith, λ j x y p. absurd (omega arith))
-
-pub returns : goal.returns
-returns c = search rules

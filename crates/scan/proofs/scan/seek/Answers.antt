@@ -1,11 +1,7 @@
 use native.Mathlib.Nat.{add-zero}
 use native.Mathlib.Omega.{arith}
 use lib.ListN.{drop_of_length-le}
-use borrow.Author.Rules.{rules}
 use Rattle.scan.proofs.scan.seek.Goals as goal
 
 pub returns-then-s-from : goal.returns-then-s-from
 returns-then-s-from c = let a = c.args in rw (drop_of_length-le a.s.now {i = a.from} (omega arith), add-zero)
-
-pub returns : goal.returns
-returns c = search rules

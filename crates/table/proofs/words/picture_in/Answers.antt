@@ -21,12 +21,6 @@ use Rattle.table.proofs.words.picture_in.Goals as goal
 pub returns-then-id-gt255 : goal.returns-then-id-gt255
 returns-then-id-gt255 c = sym (picture-past _ _ c.if-id-gt255.true)
 
-pub bounds-t-i-3 : goal.bounds-t-i-3
-bounds-t-i-3 c = search rules
-
-pub bounds-t-i-4 : goal.bounds-t-i-4
-bounds-t-i-4 c = search rules
-
 -- the tests that stand first, on the entry's words
 told : (w : List ℕ) {a b c d : Bool} → d ≡ a && c → a ≡ between 32 63 (get_or w 0 0) → c ≡ leb (get_or w 5 0) 87 && b → b ≡ leb (get_or w 6 0) 51 && leb (width_in w) 25 → d ≡ plausible w
 told w e f g h = rw (e, f, g, h)

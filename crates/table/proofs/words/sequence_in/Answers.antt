@@ -2,14 +2,10 @@ use mathlib.Core.Path.{sym, ◌∙◌}
 use Rattle.table.specs.Tables.{sequence_of}
 use Rattle.table.proofs.Tests.{two}
 use Rattle.table.proofs.Looking.{sequence-past, sequence-none, sequence-there}
-use borrow.Author.Rules.{rules}
 use Rattle.table.proofs.words.sequence_in.Goals as goal
 
 pub returns-then-id-gt31 : goal.returns-then-id-gt31
 returns-then-id-gt31 c = sym (sequence-past _ _ c.if-id-gt31.true)
-
-pub bounds-t-i-6 : goal.bounds-t-i-6
-bounds-t-i-6 c = search rules
 
 pub returns-then-both : goal.returns-then-both
 unfolding sequence_of

@@ -1,10 +1,6 @@
 use mathlib.Core.Path.{sym, ap}
-use borrow.Author.Rules.{rules}
 use Rattle.nal.specs.UnitType.{id_of}
 use Rattle.nal.proofs.unit_type.UnitType.id.Goals as goal
-
-pub enum_told-1 : goal.enum_told-1
-enum_told-1 c = search rules
 
 pub returns-in-Unspecified : goal.returns-in-Unspecified
 returns-in-Unspecified c = sym (ap id_of c.in-Unspecified.is)
