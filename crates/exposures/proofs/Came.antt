@@ -1,5 +1,5 @@
 -- The state after a list is that of its last picture; and what a list closes is closed whatever follows.
-use Prim.Native.Nat.{ℕ, ◌+◌}
+use Prim.Native.Nat.{ℕ}
 use mathlib.Core.Path.{◌≡◌, refl, sym, ap, ◌∙◌}
 use mathlib.Core.Bool.{Bool, true, false, true≢false}
 use mathlib.Core.List.{List, [], ◌∷◌, ◌++◌, append-nil, append_assoc}
@@ -14,7 +14,7 @@ use Rattle.exposures.specs.declared.exposure.Exposure.{Exposure}
 use Rattle.exposures.specs.Compare.{frames, differ}
 use Rattle.exposures.specs.Exposure.{held}
 use Rattle.exposures.specs.Pictures.{slices_of, Picture, rest_of, last_of, last_in, refused_in}
-use Rattle.exposures.specs.Take.{State, Taken, no_counts, start, counted, opened, slice_taken, unit_taken, take_of, said, run, state_after}
+use Rattle.exposures.specs.Take.{State, Taken, no_counts, start, counted, slice_taken, unit_taken, take_of, said, run, state_after}
 use Rattle.exposures.proofs.Lists.{slices-append, last-append}
 use Rattle.exposures.proofs.Runs.{alone, grown, during, waiting, opened-is, rest-unit, refused-unit, alike, new, passed}
 

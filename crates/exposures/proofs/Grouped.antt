@@ -1,10 +1,9 @@
 -- The pictures of a list: they hold all of it in order, their slices are its slices, neighbours in a picture are alike, and pictures part where they are not.
 use mathlib.Core.Path.{◌≡◌, refl, sym, ap, ◌∙◌}
 use mathlib.Core.Bool.{Bool, true, false}
-use mathlib.Core.List.{List, [], ◌∷◌, ◌++◌, append-nil, append_assoc}
+use mathlib.Core.List.{List, [], ◌∷◌, ◌++◌, append_assoc}
 use Rattle.bits.specs.Refusals.{pick}
 use Rattle.exposures.specs.declared.slice.Slice.{Slice}
-use Rattle.exposures.specs.declared.slice.Kind.{Kind}
 use Rattle.exposures.specs.declared.slice.Item.{Item}
 use Rattle.exposures.specs.Compare.{differ}
 use Rattle.exposures.specs.Pictures.{slices_of, Picture, rest_of, slices_in, last_of, last_in, joined, cut}

@@ -1,11 +1,10 @@
 -- Laws of a list of units: its parts, and the QPs and the last of its slices, when a unit comes behind it.
-use Prim.Native.Nat.{ℕ, suc, ◌+◌, ◌≤◌}
-use mathlib.Core.Path.{◌≡◌, refl, sym, ap, ◌∙◌}
+use Prim.Native.Nat.{ℕ, suc, ◌≤◌}
+use mathlib.Core.Path.{◌≡◌, refl}
 use mathlib.Core.Bool.{Bool, true, false}
 use mathlib.Core.List.{List, [], ◌∷◌, ◌++◌}
 use native.Mathlib.Omega.{arith}
 use lib.IntN.{ℤ}
-use lib.ListN.{length, length-append}
 use Rattle.bits.specs.Refusals.{pick}
 use Rattle.exposures.specs.declared.slice.Slice.{Slice}
 use Rattle.exposures.specs.declared.slice.Kind.{Kind}

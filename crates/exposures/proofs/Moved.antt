@@ -1,6 +1,6 @@
 -- Units at other places have the same exposures at other places: pictures do not go by places.
 use Prim.Native.Nat.{ℕ, zero, suc}
-use mathlib.Core.Path.{◌≡◌, refl, sym, ap, ◌∙◌}
+use mathlib.Core.Path.{◌≡◌, refl, sym, ap}
 use mathlib.Core.Bool.{Bool, true, false}
 use mathlib.Core.List.{List, [], ◌∷◌, ◌++◌, map, map-append}
 use lib.IntN.{ℤ}
@@ -9,10 +9,9 @@ use Rattle.bits.specs.Refusals.{pick}
 use Rattle.exposures.specs.declared.slice.Slice.{Slice}
 use Rattle.exposures.specs.declared.slice.Kind.{Kind}
 use Rattle.exposures.specs.declared.slice.Item.{Item}
-use Rattle.exposures.specs.declared.exposure.Exposure.{Exposure}
 use Rattle.exposures.specs.Compare.{frames, fields, references, counts0, counts1, idrs, differ, gap_after}
 use Rattle.exposures.specs.Exposure.{lesser, greater, plus, over, exposure_of}
-use Rattle.exposures.specs.Pictures.{slices_of, last_of, same, those, Picture, rest_of, Cut, joined, cut, refused_in, gap_to, exposures_from, exposures}
+use Rattle.exposures.specs.Pictures.{slices_of, last_of, same, those, Picture, rest_of, joined, cut, refused_in, gap_to, exposures_from, exposures}
 use Rattle.exposures.specs.Torn.{joins, goes_on, begun_in}
 use Rattle.exposures.specs.Moved.{move_slice, move_item, move_exposure}
 

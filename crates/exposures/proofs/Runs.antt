@@ -1,6 +1,6 @@
 -- Taking a list's units one by one gives the exposures of its pictures.
-use Prim.Native.Nat.{ℕ, suc, ◌+◌}
-use mathlib.Core.Path.{◌≡◌, refl, sym, ap, ◌∙◌}
+use Prim.Native.Nat.{ℕ, suc}
+use mathlib.Core.Path.{◌≡◌, refl, ap, ◌∙◌}
 use mathlib.Core.Bool.{Bool, true, false}
 use mathlib.Core.List.{List, [], ◌∷◌, ◌++◌, append-nil, append_assoc}
 use native.Mathlib.Omega.{arith}
@@ -11,12 +11,11 @@ use Rattle.exposures.specs.declared.slice.Slice.{Slice}
 use Rattle.exposures.specs.declared.slice.Kind.{Kind}
 use Rattle.exposures.specs.declared.slice.Item.{Item}
 use Rattle.exposures.specs.declared.counts.Counts.{Counts}
-use Rattle.exposures.specs.declared.exposure.Exposure.{Exposure}
 use Rattle.exposures.specs.declared.take.Closed.{Closed}
 use Rattle.exposures.specs.Compare.{differ, gap_after}
-use Rattle.exposures.specs.Exposure.{held, lesser, greater, plus, over, exposure_of, one_slice, more}
-use Rattle.exposures.specs.Pictures.{last_of, slices_of, same, those, Picture, rest_of, last_in, Cut, joined, cut, refused_in, gap_to, exposures_from, exposures}
-use Rattle.exposures.specs.Take.{State, Taken, no_slice, no_counts, start, counted, still, opened, slice_taken, refused_with, unit_taken, take_of, finish_of, said, run}
+use Rattle.exposures.specs.Exposure.{held, lesser, greater, plus, exposure_of, one_slice, more}
+use Rattle.exposures.specs.Pictures.{slices_of, same, those, Picture, rest_of, last_in, joined, cut, refused_in, gap_to, exposures_from, exposures}
+use Rattle.exposures.specs.Take.{State, no_slice, no_counts, start, counted, still, opened, slice_taken, refused_with, unit_taken, take_of, finish_of, run}
 use Rattle.exposures.proofs.Lists.{slices-append, those-append, over-append, last-append, held-suc}
 
 -- ---- a picture so far

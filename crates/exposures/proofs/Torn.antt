@@ -1,5 +1,5 @@
 -- Demand 3 for exposures: of lists that end in S, behind whatever stands before it, the exposures that begin in S are those of S alone, but for what looks back.
-use Prim.Native.Nat.{ℕ, suc, ◌+◌, ◌-◌, ◌≤◌}
+use Prim.Native.Nat.{ℕ, ◌-◌, ◌≤◌}
 use mathlib.Core.Path.{◌≡◌, refl, sym, ap, ◌∙◌}
 use mathlib.Core.Bool.{Bool, true, false, not, ◌&&◌, ◌||◌, or_comm, false≢true}
 use mathlib.Core.List.{List, [], ◌∷◌, ◌++◌, map, append-nil}
@@ -10,16 +10,15 @@ use Rattle.bits.specs.Refusals.{pick}
 use Rattle.bits.proofs.Results.{cases}
 use Rattle.exposures.specs.declared.slice.Slice.{Slice}
 use Rattle.exposures.specs.declared.slice.Item.{Item}
-use Rattle.exposures.specs.declared.counts.Counts.{Counts}
 use Rattle.exposures.specs.declared.exposure.Exposure.{Exposure}
 use Rattle.exposures.specs.declared.take.Closed.{Closed}
 use Rattle.exposures.specs.Compare.{differ, gap_after}
 use Rattle.exposures.specs.Exposure.{exposure_of}
-use Rattle.exposures.specs.Pictures.{slices_of, Picture, rest_of, last_of, last_in, cut, refused_in, gap_to, exposures_from, exposures}
+use Rattle.exposures.specs.Pictures.{Picture, last_of, last_in, cut, refused_in, gap_to, exposures_from, exposures}
 use Rattle.exposures.specs.Take.{State, start, finish_of, said, run, state_after}
 use Rattle.exposures.specs.Torn.{joins, goes_on, begun_in, no_refused, own}
 use Rattle.exposures.proofs.Grouped.{slices_in_all, pictures-partition}
-use Rattle.exposures.proofs.Runs.{grown, during, onto, waiting, along, from_start, taken-exposures}
+use Rattle.exposures.proofs.Runs.{grown, onto, along, from_start, taken-exposures}
 use Rattle.exposures.proofs.Moved.{drop-map}
 use Rattle.exposures.proofs.Came.{same-frame, Came, none, some, came, closed_in, run-append}
 

@@ -1,5 +1,5 @@
 -- The pictures of a list of units, and their exposures (docs/RULES.md, 'Exposures').
-use Rattle.std.specs.Prelude.{ℕ, Bool, true, false, List, [], ◌∷◌, ◌++◌, eqb, length}
+use Rattle.std.specs.Prelude.{ℕ, Bool, false, List, [], ◌∷◌, ◌++◌, eqb, length}
 use Rattle.bits.specs.Refusals.{pick}
 use Rattle.exposures.specs.declared.slice.Slice.{Slice}
 use Rattle.exposures.specs.declared.slice.Kind.{Kind}

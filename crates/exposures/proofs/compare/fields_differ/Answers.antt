@@ -1,4 +1,3 @@
-use borrow.Author.Rules.{rules}
 use Rattle.exposures.specs.Compare.{fields}
 use Rattle.exposures.proofs.compare.fields_differ.Goals as goal
 

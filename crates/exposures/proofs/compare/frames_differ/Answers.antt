@@ -1,4 +1,3 @@
-use borrow.Author.Rules.{rules}
 use Rattle.exposures.specs.Compare.{frames}
 use Rattle.exposures.proofs.compare.frames_differ.Goals as goal
 

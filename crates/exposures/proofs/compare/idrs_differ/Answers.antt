@@ -1,4 +1,3 @@
-use borrow.Author.Rules.{rules}
 use Rattle.exposures.specs.Compare.{idrs}
 use Rattle.exposures.proofs.compare.idrs_differ.Goals as goal
 

@@ -1,4 +1,3 @@
-use borrow.Author.Rules.{rules}
 use Rattle.exposures.specs.Compare.{differ}
 use Rattle.exposures.proofs.compare.is_first.Goals as goal
 

@@ -1,4 +1,3 @@
-use borrow.Author.Rules.{rules}
 use borrow.Author.Tests.{eq-eqb, ne_eqb}
 use Rattle.exposures.specs.Compare.{gap_after}
 use Rattle.exposures.proofs.compare.is_gap.Goals as goal

@@ -1,4 +1,3 @@
-use borrow.Author.Rules.{rules}
 use Prim.Native.Nat.{◌+◌, ◌^◌, ◌<◌}
 use mathlib.Core.Path.{sym}
 use native.Mathlib.Nat.{mod-eq_of_lt, lt_of_lt_of_le}

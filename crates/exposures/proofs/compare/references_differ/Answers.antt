@@ -1,4 +1,3 @@
-use borrow.Author.Rules.{rules}
 use Rattle.exposures.specs.Compare.{references}
 use Rattle.exposures.proofs.compare.references_differ.Goals as goal
 

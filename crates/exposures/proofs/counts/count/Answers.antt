@@ -1,4 +1,3 @@
-use borrow.Author.Rules.{rules}
 use Rattle.exposures.proofs.counts.count.Goals as goal
 
 pub returns-in-Slice : goal.returns-in-Slice

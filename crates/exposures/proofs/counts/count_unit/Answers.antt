@@ -1,4 +1,3 @@
-use borrow.Author.Rules.{rules}
 use Rattle.exposures.proofs.counts.count_unit.Goals as goal
 
 pub returns-in-Redundant : goal.returns-in-Redundant

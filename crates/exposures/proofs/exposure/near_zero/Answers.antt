@@ -1,7 +1,3 @@
-use borrow.Author.Rules.{rules}
-use mathlib.Core.Bool.{true, false}
-use mathlib.Core.Path.{◌≡◌}
-use lib.Signed.{le_z}
 use mir.Facts.{to_z-of_z}
 use Rattle.exposures.specs.Exposure.{near}
 use Rattle.exposures.proofs.exposure.near_zero.Goals as goal

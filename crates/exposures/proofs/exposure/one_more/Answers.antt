@@ -1,4 +1,3 @@
-use borrow.Author.Rules.{rules}
 use native.Mathlib.Omega.{arith}
 use Rattle.exposures.specs.Exposure.{held}
 use Rattle.exposures.proofs.exposure.one_more.Goals as goal

@@ -1,8 +1,6 @@
-use borrow.Author.Rules.{rules}
 use mir.Facts.{to_z-of_z}
 use mir.Syntax.{w64}
 use mir.Val.{SFits}
-use mathlib.Core.Path.{◌∙◌}
 use Rattle.exposures.specs.Exposure.{plus}
 use Rattle.exposures.proofs.Sums.{plus-fits}
 use Rattle.exposures.proofs.exposure.sum_of.Goals as goal

@@ -1,6 +1,5 @@
 use mathlib.Core.Path.{refl}
 use Rattle.exposures.specs.Words.{counts_in}
-use borrow.Author.Rules.{rules}
 use Rattle.exposures.proofs.take.counts.Goals as goal
 
 pub returns : goal.returns

@@ -2,7 +2,6 @@ use borrow.Author.Tests.{ne_eqb}
 use lib.ListN.{get_or}
 use Rattle.exposures.specs.Take.{finish_of}
 use Rattle.exposures.specs.Words.{state_in}
-use borrow.Author.Rules.{rules}
 use Rattle.exposures.proofs.take.finish.Goals as goal
 
 pub returns-then-numbers-eq0 : goal.returns-then-numbers-eq0

@@ -1,5 +1,4 @@
 use Rattle.exposures.specs.Take.{start}
-use borrow.Author.Rules.{rules}
 use Rattle.exposures.proofs.take.start.Goals as goal
 
 pub returns : goal.returns

@@ -2,7 +2,6 @@ use mathlib.Core.Path.{sym, ap, ◌∙◌}
 use Rattle.exposures.specs.Take.{unit_taken}
 use Rattle.exposures.specs.Words.{words, words_of}
 use Rattle.exposures.proofs.Laid.{as-slice, as-unit}
-use borrow.Author.Rules.{rules}
 use Rattle.exposures.proofs.take.take.Goals as goal
 
 pub returns-in-Slice : goal.returns-in-Slice

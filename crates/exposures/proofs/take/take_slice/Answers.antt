@@ -3,7 +3,6 @@ use mathlib.Core.Path.{refl}
 use lib.ListN.{get_or}
 use Rattle.exposures.specs.Take.{slice_taken, opened}
 use Rattle.exposures.specs.Words.{state_in}
-use borrow.Author.Rules.{rules}
 use Rattle.exposures.proofs.take.take_slice.Goals as goal
 
 pub returns-then-numbers-eq0 : goal.returns-then-numbers-eq0

@@ -1,6 +1,5 @@
 use Rattle.exposures.specs.Take.{unit_taken}
 use Rattle.exposures.specs.Words.{state_in}
-use borrow.Author.Rules.{rules}
 use Rattle.exposures.proofs.take.take_unit.Goals as goal
 
 pub returns : goal.returns

@@ -5,7 +5,7 @@ use mir.Facts.{to_z-of_z}
 use mir.Syntax.{w64}
 use mir.Val.{SFits, bool_byte}
 use Rattle.exposures.specs.Words.{words_of}
-use borrow.Author.Rules.{rules, sfits_of}
+use borrow.Author.Rules.{sfits_of}
 use Rattle.exposures.proofs.words.lay.Goals as goal
 
 bit-same : (b : Bool) → bool_byte b ≡ bit_of b
