@@ -2,7 +2,7 @@
 ghost use Rattle.std.specs.Prelude.{◌≡◌};
 ghost use Rattle.header.specs.Lead.{table_of};
 ghost use Rattle.exposures.specs.Take.{start, finish_of};
-ghost use Rattle.exposures.specs.Words.{lent, counts_in, state_in, words_of};
+ghost use Rattle.exposures.specs.Words.{words, lent, counts_in, state_in, words_of};
 ghost use Rattle.exports.specs.Takes.{no_exposure, closed_out, taken_out};
 
 use crate::listings::hear;
@@ -100,7 +100,7 @@ pub extern "C" fn tuz_finish<'a>(
     state_numbers: &'a [u32; 13],
     state_levels: &'a [i64; 7],
 ) -> ClosedOut
-    ensures { result ≡ closed_out (finish_of (state_in (lent state_sizes state_numbers state_levels).entry)) }
+    ensures { result ≡ closed_out (finish_of (state_in (words state_sizes.now state_numbers.now state_levels.now))) }
 {
     closed_out(finish(state_sizes, state_numbers, state_levels))
 }

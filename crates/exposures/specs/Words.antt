@@ -1,6 +1,6 @@
 -- The state in words that the caller lends. Any words hold a state: a flag is set where its word is not 0.
 use Rattle.std.specs.Prelude.{ℕ, Bool, not, List, [], ◌∷◌, ◌++◌, eqb, ℤ, pos, get_or}
-use Rattle.std.specs.Borrow.{Bor}
+use Rattle.std.specs.Borrow.{MutBor}
 use denote.Triple.Both.{Both}
 use Rattle.bits.specs.Codes.{bit_of}
 use Rattle.exposures.specs.declared.slice.Slice.{Slice}
@@ -18,7 +18,7 @@ abbrev pub words : List ℕ → List ℕ → List ℤ → Words
 words sizes numbers levels = record { sizes = sizes; numbers = numbers; levels = levels }
 
 -- those in the arrays that are lent, at entry and at exit
-abbrev pub lent : Both (Bor (List ℕ)) (Bor (List ℕ)) → Both (Bor (List ℕ)) (Bor (List ℕ)) → Both (Bor (List ℤ)) (Bor (List ℤ)) → Both Words Words
+abbrev pub lent : Both (MutBor (List ℕ)) (MutBor (List ℕ)) → Both (MutBor (List ℕ)) (MutBor (List ℕ)) → Both (MutBor (List ℤ)) (MutBor (List ℤ)) → Both Words Words
 lent sizes numbers levels =
     record {
       entry = words sizes.entry.now numbers.entry.now levels.entry.now;

@@ -2,7 +2,7 @@
 // units are counted, and split no picture.
 ghost use Rattle.std.specs.Prelude.{◌≡◌};
 ghost use Rattle.exposures.specs.Take.{no_slice, no_counts, start, slice_taken, refused_with, unit_taken, take_of, finish_of};
-ghost use Rattle.exposures.specs.Words.{lent, state_in, words_of, counts_in};
+ghost use Rattle.exposures.specs.Words.{words, lent, state_in, words_of, counts_in};
 
 use crate::compare::{is_first, is_gap};
 use crate::counts::{Counts, count};
@@ -155,7 +155,7 @@ pub fn take(
 
 // The last exposure: nothing more is taken.
 pub fn finish<'a>(sizes: &'a [usize; 11], numbers: &'a [u32; 13], levels: &'a [i64; 7]) -> Closed
-    ensures { result ≡ finish_of (state_in (lent sizes numbers levels).entry) }
+    ensures { result ≡ finish_of (state_in (words sizes.now numbers.now levels.now)) }
 {
     if numbers[0] == 0 {
         return Closed::Nothing;

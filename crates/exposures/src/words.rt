@@ -1,6 +1,6 @@
 // The state in words that the caller lends: sizes, numbers and levels. A flag is set where its word is not 0, and is written as 0 or 1.
 ghost use Rattle.std.specs.Prelude.{◌≡◌};
-ghost use Rattle.exposures.specs.Words.{lent, exposure_in, last_in, words_of};
+ghost use Rattle.exposures.specs.Words.{words, lent, exposure_in, last_in, words_of};
 
 use crate::counts::Counts;
 use crate::exposure::Exposure;
@@ -12,7 +12,7 @@ pub(crate) fn exposure_in<'a>(
     numbers: &'a [u32; 13],
     levels: &'a [i64; 7],
 ) -> Exposure
-    ensures { result ≡ exposure_in (lent sizes numbers levels).entry }
+    ensures { result ≡ exposure_in (words sizes.now numbers.now levels.now) }
 {
     Exposure {
         place: sizes[0],
@@ -32,7 +32,7 @@ pub(crate) fn last_in<'a>(
     numbers: &'a [u32; 13],
     levels: &'a [i64; 7],
 ) -> Slice
-    ensures { result ≡ last_in (lent sizes numbers levels).entry }
+    ensures { result ≡ last_in (words sizes.now numbers.now levels.now) }
 {
     Slice {
         place: sizes[3],
