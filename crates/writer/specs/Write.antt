@@ -1,5 +1,5 @@
 -- Writing a slice header into a lent buffer, as docs/RULES.md has it ('Refusal numbers', 'The writer').
-use Rattle.std.specs.Prelude.{ℕ, List, Bool, true, ◌&&◌, leb, pos}
+use Rattle.std.specs.Prelude.{ℕ, List, Bool, true, ◌&&◌, leb, ℤ, pos}
 use Rattle.bits.specs.Refusals.{pick, refusal}
 use Rattle.bits.specs.Answers.{none}
 use Rattle.bits.specs.Put.{Written, written}
@@ -39,6 +39,10 @@ why_sets (SetsFor.There p w s) = none
 why_sets (SetsFor.Refused r) = r
 
 -- ---- the header
+
+-- the words in arrays that are lent to be read
+abbrev pub lent_words : List ℕ → List ℤ → List ℕ → List ℕ → List ℕ → List ℤ → List ℤ → HeaderWords
+lent_words numbers signed l0 l1 marking w0 w1 = record { numbers = numbers; signed = signed; l0 = l0; l1 = l1; marking = marking; w0 = w0; w1 = w1 }
 
 -- the answer, and the buffer at exit
 pub record HeaderOut : Type 0 where
