@@ -8,7 +8,7 @@ use lib.IntN.{ℤ, pos}
 use lib.ListN.{length, take, drop, drop_of_length-le}
 use lib.Seq.{sets, sets-eq, take_at}
 use Rattle.bits.specs.declared.refusals.Refusal.{Refusal}
-use Rattle.bits.specs.Refusals.{Res, got, no, bind, pick, refusal_at}
+use Rattle.bits.specs.Refusals.{Res, got, no, bind, refusal_at}
 use Rattle.bits.specs.Bits.{Bits}
 use Rattle.bits.proofs.Results.{bind-bind}
 use Rattle.fmt.specs.Fmt.{seq, shaped}

@@ -1,7 +1,7 @@
 -- Lists into words and out of them: the words that hold a list give it back, and the list that words hold gives back the words.
 use Prim.Native.Nat.{ℕ, zero, suc, ◌+◌, ◌*◌, ◌≤◌}
 use mathlib.Core.Path.{◌≡◌, refl, ap, ap₂, sym, ◌∙◌}
-use mathlib.Core.Bool.{Bool, true, false, not, ◌&&◌}
+use mathlib.Core.Bool.{Bool, true, false, ◌&&◌}
 use mathlib.Core.List.{List, [], ◌∷◌, ◌++◌, flat_map, append_assoc}
 use native.Mathlib.Omega.{arith}
 use native.Mathlib.Nat.{zero-add, mul-zero, mul-suc}
@@ -10,7 +10,6 @@ use lib.IntN.{ℤ, pos, negsuc}
 use lib.ListN.{length, get_or, take, drop, replicate, length-replicate, length-drop, take-append-drop}
 use lib.Seq.{sets, sets-eq, length-sets, take-add, length-take-le, drop-append_seam}
 use borrow.Author.Tests.{le-leb}
-use Rattle.bits.specs.Refusals.{pick}
 use Rattle.fmt.specs.Arrays.{pad, padded}
 use Rattle.fmt.proofs.Lawful.{both-0, both-1, both-T, T_true}
 use Rattle.fmt.proofs.Arrays.{unpad-pad, padded-le, length-unpad, pad-unpad}

@@ -1,8 +1,8 @@
 -- A header into words and out of them.
 use Prim.Native.Nat.{ℕ, zero, suc, ◌+◌, ◌*◌, ◌≤◌}
-use mathlib.Core.Path.{◌≡◌, refl, ap, ap₂, sym, ◌∙◌}
+use mathlib.Core.Path.{◌≡◌, refl, ap₂, sym, ◌∙◌}
 use mathlib.Core.Bool.{Bool, true, false, not, ◌&&◌, ◌||◌}
-use mathlib.Core.List.{List, [], ◌∷◌, ◌++◌}
+use mathlib.Core.List.{List, [], ◌∷◌}
 use native.Mathlib.Omega.{arith}
 use lib.Dec.{T, eqb, leb, leb→le, eqb→eq}
 use lib.IntN.{pos}
@@ -23,16 +23,13 @@ use Rattle.weights.specs.Counts.{at_most32}
 use Rattle.syntax.proofs.Goods.{seq-first, seq-rest, shaped_from}
 use Rattle.syntax.specs.declared.context.UnitKind.{UnitKind}
 use Rattle.syntax.specs.declared.context.PrefixKind.{PrefixKind}
-use Rattle.syntax.specs.declared.marks.MarkedFlag.{MarkedFlag}
-use Rattle.syntax.specs.declared.marks.MarkedNumber.{MarkedNumber}
 use Rattle.syntax.specs.declared.record.SliceHeader.{SliceHeader}
 use Rattle.syntax.specs.Prefix.{prefix}
 use Rattle.syntax.specs.declared.record.Prefix.{Prefix}
 use Rattle.lists.specs.ListsLent.{list_words, at_most66, prefix_short}
-use Rattle.weights.specs.WeightsLent.{weight_words}
-use Rattle.header.specs.Short.{bit, number_words, flag_words, numbers_of, signed_of, HeaderWords, emptied, header_in, zeros}
+use Rattle.header.specs.Short.{bit, numbers_of, signed_of, HeaderWords, emptied, header_in, zeros}
 use Rattle.header.proofs.Tidy.{InOrder, good-in-order, operations_if-ok}
-use Rattle.record.specs.Fields.{number_in, set_in, marked_number, marked_flag, frame_from, order_count_from, active_counts_from, quantiser_from, filter_from}
+use Rattle.record.specs.Fields.{number_in, set_in, frame_from, order_count_from, active_counts_from, quantiser_from, filter_from}
 use Rattle.record.specs.Entries.{operations_in, operations_from, weights_in, weights_from}
 use Rattle.record.specs.Record.{modifications_from, weight_table_from, marking_from, header_from, prefix_from, within, withins, flags, plain_numbers, plain_weights, plain}
 use Rattle.record.proofs.Round.{operations-from-in, count-from, list-in-from, length-emptied, list-behind, weights-from-in, weights-plain, weights-count, weights-in-from, length-emptied-weights, weights-behind}

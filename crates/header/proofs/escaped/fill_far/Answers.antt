@@ -4,7 +4,6 @@ use lib.Seq.{length-take-le}
 use Rattle.header.specs.Lead.{table_of}
 use Rattle.cut.proofs.Fronts.{far-header}
 use Rattle.cut.proofs.Firsts.{far-held, far-bits}
-use borrow.Author.Rules.{rules}
 use Rattle.header.proofs.escaped.fill_far.Goals as goal
 
 pub slice_bounds-local-end : goal.slice_bounds-local-end

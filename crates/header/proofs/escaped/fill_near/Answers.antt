@@ -1,7 +1,6 @@
 use mathlib.Core.Path.{sym}
 use lib.Seq.{length-take-le}
 use Rattle.cut.proofs.Firsts.{near-held, near-bits}
-use borrow.Author.Rules.{rules}
 use Rattle.header.proofs.escaped.fill_near.Goals as goal
 
 pub slice_bounds-local-end : goal.slice_bounds-local-end

@@ -1,6 +1,5 @@
 use mathlib.Core.Path.{◌∙◌}
 use Rattle.bits.specs.Bits.{bits_of}
-use borrow.Author.Rules.{rules}
 use Rattle.header.proofs.follows.any_set_after.Goals as goal
 
 pub returns : goal.returns

@@ -1,4 +1,3 @@
-use borrow.Author.Rules.{rules}
 use Rattle.header.specs.Short.{emptied}
 use Rattle.header.proofs.slice.empty_lists.Goals as goal
 

@@ -1,4 +1,3 @@
-use borrow.Author.Rules.{rules}
 use Rattle.syntax.specs.SliceHeader.{active_l0, active_l1}
 use Rattle.header.proofs.Counts.{twice_same}
 use Rattle.header.proofs.slice.weights_for_into.Goals as goal

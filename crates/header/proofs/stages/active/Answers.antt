@@ -1,4 +1,3 @@
-use borrow.Author.Rules.{rules}
 use Rattle.header.proofs.stages.active.Goals as goal
 
 pub returns : goal.returns

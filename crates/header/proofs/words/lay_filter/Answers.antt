@@ -2,7 +2,7 @@ use mathlib.Core.Path.{refl}
 use mir.Facts.{to_z-of_z}
 use mir.Syntax.{w32}
 use mir.Val.{SFits}
-use borrow.Author.Rules.{rules, sfits_of}
+use borrow.Author.Rules.{sfits_of}
 use Rattle.header.proofs.words.lay_filter.Goals as goal
 
 -- that each field fits stands deep in what is told of the struct, too deep for a search

@@ -3,7 +3,7 @@ use lib.IntN.{pos}
 use lib.ListN.{get_or}
 use mathlib.Core.Bool.{not}
 use Rattle.record.proofs.Taken.{zero_bits}
-use borrow.Author.Rules.{rules, sfits_of}
+use borrow.Author.Rules.{sfits_of}
 use Rattle.record.proofs.entries.flag_at.Goals as goal
 
 pub returns : goal.returns

@@ -1,6 +1,6 @@
 use borrow.Author.Rules.{rules}
-use Prim.Native.Nat.{◌≤◌, ◌-◌}
-use Rattle.record.proofs.Taken.{Loaded, none-loaded, one-loaded, all-loaded}
+use Prim.Native.Nat.{◌≤◌}
+use Rattle.record.proofs.Taken.{none-loaded, one-loaded, all-loaded}
 use Rattle.lists.proofs.Emptied.{at-most-66}
 use mathlib.Core.Path.{◌≡◌}
 use native.Mathlib.Omega.{arith}

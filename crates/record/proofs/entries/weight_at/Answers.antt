@@ -6,7 +6,7 @@ use mir.Facts.{to_z-of_z}
 use mir.Syntax.{w32}
 use mir.Val.{SFits}
 use Rattle.record.proofs.Taken.{weight-there}
-use borrow.Author.Rules.{rules, sfits_of}
+use borrow.Author.Rules.{sfits_of}
 use Rattle.record.proofs.entries.weight_at.Goals as goal
 
 pub returns : goal.returns

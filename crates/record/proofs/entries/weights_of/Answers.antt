@@ -1,9 +1,9 @@
 use borrow.Author.Rules.{rules}
-use Prim.Native.Nat.{◌≤◌, ◌-◌}
+use Prim.Native.Nat.{◌≤◌}
 use mathlib.Core.Path.{◌≡◌}
 use native.Mathlib.Omega.{arith}
 use Rattle.weights.proofs.AtMost.{at-most-32}
-use Rattle.record.proofs.Taken.{Held, none-held, one-held, all_held}
+use Rattle.record.proofs.Taken.{none-held, one-held, all_held}
 use Rattle.record.proofs.entries.weights_of.Goals as goal
 
 pub loop-i-init : goal.loop-i-init

@@ -1,9 +1,5 @@
-use borrow.Author.Rules.{rules}
 use Prim.Native.Nat.{◌≤◌, ◌-◌}
-use mathlib.Core.Path.{◌≡◌}
-use native.Mathlib.Omega.{arith}
-use Rattle.weights.proofs.AtMost.{at-most-32}
-use Rattle.record.proofs.Taken.{Held, none-held, one-held, all_held}
+use Rattle.record.proofs.Taken.{Held}
 use Rattle.record.proofs.entries.weights_of.Given as goal
 
 abbrev pub invariant-loop-i : goal.invariant-loop-i

@@ -1,5 +1,4 @@
 use Rattle.record.specs.Fields.{active_counts_from}
-use borrow.Author.Rules.{rules}
 use Rattle.record.proofs.parts_of.active_counts_of.Goals as goal
 
 pub returns : goal.returns

@@ -1,5 +1,4 @@
 use Rattle.record.specs.Fields.{frame_from}
-use borrow.Author.Rules.{rules}
 use Rattle.record.proofs.parts_of.frame_of.Goals as goal
 
 pub returns : goal.returns

@@ -1,5 +1,4 @@
 use Rattle.record.proofs.Tests.{four}
-use borrow.Author.Rules.{rules}
 use Rattle.record.proofs.plain.are_bits.Goals as goal
 
 pub returns : goal.returns

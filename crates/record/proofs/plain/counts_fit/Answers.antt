@@ -1,5 +1,4 @@
 use Rattle.record.proofs.Tests.{counts-plain}
-use borrow.Author.Rules.{rules}
 use Rattle.record.proofs.plain.counts_fit.Goals as goal
 
 pub returns : goal.returns

@@ -3,7 +3,6 @@ use mathlib.Core.Bool.{Bool, ◌&&◌}
 use lib.ListN.{take, drop}
 use Rattle.record.specs.Record.{withins, flags}
 use Rattle.record.proofs.Tests.{parted, parts}
-use borrow.Author.Rules.{rules}
 use Rattle.record.proofs.plain.is_plain_back.Goals as goal
 
 pub returns : goal.returns

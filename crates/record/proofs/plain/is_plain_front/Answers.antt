@@ -1,7 +1,6 @@
 use lib.ListN.{take}
 use Rattle.record.specs.Record.{flags}
 use Rattle.record.proofs.Tests.{parts}
-use borrow.Author.Rules.{rules}
 use Rattle.record.proofs.plain.is_plain_front.Goals as goal
 
 pub returns : goal.returns

@@ -1,6 +1,5 @@
 use Rattle.record.specs.Record.{flags, plain_numbers}
 use Rattle.record.proofs.Tests.{parted}
-use borrow.Author.Rules.{rules}
 use Rattle.record.proofs.plain.is_plain_numbers.Goals as goal
 
 pub returns : goal.returns

@@ -1,5 +1,4 @@
 use Rattle.record.specs.Record.{header_from}
-use borrow.Author.Rules.{rules}
 use Rattle.record.proofs.record.header_of.Goals as goal
 
 pub returns : goal.returns

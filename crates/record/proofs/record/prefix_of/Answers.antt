@@ -1,5 +1,4 @@
 use Rattle.record.specs.Record.{prefix_from}
-use borrow.Author.Rules.{rules}
 use Rattle.record.proofs.record.prefix_of.Goals as goal
 
 pub returns : goal.returns

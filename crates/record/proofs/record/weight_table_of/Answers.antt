@@ -1,4 +1,3 @@
-use borrow.Author.Rules.{rules}
 use Rattle.record.proofs.record.weight_table_of.Goals as goal
 
 pub returns : goal.returns
