@@ -7,10 +7,10 @@ A file crates/CRATE/must-fail/*.edit is a round: edits that are tried together, 
     # law Turns.test-refuses: a refusal has the number that is asked for    (`test-refuses` in proofs/Turns.antt)
     # and                                                                   (a replacement more of the edit above)
 
-and the log of the round, target/must-fail/CRATE/ROUND/.log, must have an error of that function or law itself: one in its own proof, at what its contract asks, that says
-what does not follow. That it cites or calls something that was not proved is not enough.
+and the log of the round, target/must-fail/CRATE/ROUND.log, must have an error of that function or law itself: a goal of its own that is left open, or an error in its own
+proof, at what its contract asks, that says what does not follow. That it cites or calls something that was not proved is not enough.
 
-edits.py          reads the rounds and the logs that `rt ci` or `rt must-fail` left
+edits.py          reads the rounds and the logs that tests/rounds.py made
 edits.py --self   tries the rules above on rounds and logs that must not pass
 """
 import pathlib
@@ -22,11 +22,12 @@ FUNCTION = re.compile(r"^( *)(?:pub(?:\(crate\))? )?(?:extern \"C\" )?fn (\w+)",
 NAMED = re.compile(r"# (fn|law) ([^\s:]+(?:::[^\s:]+)*): \S")
 ERROR = re.compile(r"(?:\S*/)?(proofs/\S+?\.antt):\d+:\d+: error: `([^`]+)`: (.*)")
 VERDICT = re.compile(r"fn (\S+): (proved|not proved|no proof)(.*)")
-UNADMITTED = re.compile(r"`([^`]+)` was not admitted")
+OPEN = re.compile(r"note: src/\S+?\.rt:\d+:\d+: it is not proved that ")
+SIGNATURE = re.compile(r"(?:(?:abbrev|unfoldable|pub) )*(\S+) : ")
 # What the prover says of a goal that does not follow. Any other error (an unknown name, a need that is not there) is about the text of a proof.
 UNPROVED = re.compile(
-    r"`search`: no proof of|`omega`: the goal does not follow|the two (?:types|sides|indices) |expected type `|`rw`: no (?:occurrence of|part of the goal )"
-    r"|give a proof of that as the last argument|the two values first differ"
+    r"`search`: no proof of|`omega`: the goal does not follow|`grind` found no proof|the two (?:types|sides|indices) |expected type `"
+    r"|`rw`: no (?:occurrence of|part of the goal )|give a proof of that as the last argument|the two values first differ|`simp`: no equation of the list"
 )
 
 
@@ -62,19 +63,23 @@ def named(text, source_of):
 
 
 class Log:
-    """What the prover said of a round: by file, the declarations with an error of their own and those that lack another; by function, its verdict."""
+    """What the prover said of a round: by file, the declarations with an error of their own; by function, its verdict, and whether a goal of its own is left open."""
 
     def __init__(self, text):
-        self.own, self.lacks, self.verdicts = {}, {}, {}
+        self.own, self.verdicts, self.left = {}, {}, set()
+        left = False
         for line in text.splitlines():
             if error := ERROR.match(line):
                 file, name, said = error.groups()
-                if lacking := UNADMITTED.search(said):
-                    self.lacks.setdefault(file, []).append((name, lacking.group(1)))
-                elif UNPROVED.search(said):
+                if UNPROVED.search(said):
                     self.own.setdefault(file, set()).add(name)
+            elif OPEN.match(line):
+                left = True
             elif verdict := VERDICT.match(line):
+                # the open goals of a function stand above its verdict
                 self.verdicts[verdict.group(1)] = verdict.group(2), verdict.group(3)
+                self.left |= {verdict.group(1)} if left else set()
+                left = False
 
     def law_fails(self, name):
         module, _, law = name.rpartition(".")
@@ -83,21 +88,33 @@ class Log:
     def function_fails(self, path, proof_of):
         verdict, said = self.verdicts.get(path, ("", ""))
         if verdict == "no proof":
-            return "`search` does not close" in said
+            return "`search` did not prove" in said
         *modules, function = path.split("::")[1:]
-        files = ["/".join(["proofs", *modules, mark + function, "Proof.antt"]) for mark in ("", "+")]  # with a plus where it calls itself
-        return verdict == "not proved" and any(self.reaches(file, name, proof_of(file)) for file in files for name in self.own.get(file, ()))
+        places = ["/".join(["proofs", *modules, mark + function]) for mark in ("", "+")]  # with a plus where it calls itself
+        files = [f"{place}/{name}.antt" for place in places for name in ("Answers", "Invariants")]
+        return verdict == "not proved" and (path in self.left or any(reaches(name, declared(proof_of(file))) for file in files for name in self.own.get(file, ())))
 
-    def reaches(self, file, name, proof):
-        """Whether a declaration is a need of the contract, the contract's own proof, or something that one of them lacks."""
-        signature = re.search(rf"^{re.escape(name)} :(.*?)^{re.escape(name)} ", proof, re.M | re.S)
-        if name.endswith("-spec") or (signature and re.search(r"\b(?:tie|lts)\.Need-", signature.group(1))):
-            return True
-        return any(self.reaches(file, other, proof) for other, lacking in self.lacks.get(file, ()) if lacking == name)
+
+def declared(proof):
+    """The declarations of a proof file: the text of each, by its name."""
+    texts, name = {}, None
+    for line in proof.splitlines():
+        if signature := SIGNATURE.match(line):
+            name = signature.group(1)
+        if name:
+            texts[name] = f"{texts.get(name, '')}{line}\n"
+    return texts
+
+
+def reaches(name, texts, seen=()):
+    """Whether a declaration answers a goal, or is cited by one that does."""
+    if re.search(rf"(?<!\S){re.escape(name)} : goal\.", texts.get(name, "")):
+        return True
+    return any(other not in seen and other != name and re.search(rf"(?<![\w'.-]){re.escape(name)}(?![\w'-])", text) and reaches(other, texts, (*seen, name)) for other, text in texts.items())
 
 
 def faults_of(text, log, source_of, proof_of):
-    """What is wrong with a round, given its log (None where there is none), the crate's sources and the proofs that it was tried on."""
+    """What is wrong with a round, given its log (None where there is none), the crate's sources and its proofs."""
     names, faults = named(text, source_of)
     if log is None:
         return faults + ["there is no log: it was not tried"]
@@ -115,10 +132,10 @@ def read(path):
 def main():
     count, rounds, failed = 0, sorted(ROOT.glob("crates/*/must-fail/*.edit")), 0
     for path in rounds:
-        place = ROOT / "target/must-fail" / path.parts[-3] / path.stem
         crate, text = path.parent.parent, path.read_text()
+        log = ROOT / "target/must-fail" / crate.name / f"{path.stem}.log"
         count += len(NAMED.findall(text))
-        for fault in faults_of(text, read(place / ".log"), lambda file: read(crate / file) or "", lambda file: read(place / file) or ""):
+        for fault in faults_of(text, read(log), lambda file: read(crate / file) or "", lambda file: read(crate / file) or ""):
             print(f"edits: {path.relative_to(ROOT)}: {fault}")
             failed += 1
     if failed or not rounds:
@@ -131,55 +148,67 @@ def main():
 SOURCE = "const N: u32 = 7;\n\nfn f() -> u32\n    ensures { x }\n{\n    one + N\n}\n\npub fn g() -> u32 {\n    two\n}\n\nconst M: u32 = 8;\n"
 ROUND = "file: src/a.rt\n# fn c::a::f: why\nold: one\nnew: 2\n"
 LAW = "file: specs/A.antt\n# law A.l: why\nold: one\nnew: 2\n"
-PROOF = "help : (c : tie.Else1) → x ≡ y\nhelp c = h\n\nreturns : tie.Need-returns\nreturns c = help c\n"
+PROOF = "use Rattle.c.proofs.a.f.Goals as goal\n\nhelp : (x : ℕ) → x ≡ y\nhelp x = h\n\nmore : ℕ → ℕ\nmore x = x\n\npub returns : goal.returns\nreturns c = help c.args.x\n"
 GOAL = "`omega`: the goal does not follow from what it read."
+ANSWERS, LAWS = "proofs/a/f/Answers.antt", "proofs/A.antt"
 
 
-def error(name, said, file="proofs/a/f/Proof.antt"):
-    return f"x/c/{file}:1:2: error: `{name}`: {said}\n"
+def error(name, said, file=ANSWERS):
+    return f"./{file}:1:2: error: `{name}`: {said}\n"
 
 
-def lacks(name, other, **more):
-    return error(name, f"`{other}` was not admitted (it has holes or undetermined implicits, or was rejected), so this cannot be checked", **more)
+def depends(name, file=ANSWERS):
+    return f"./{file}:1:2: error: 1 declaration that depends on `{name}`, which was rejected, was not checked: returns\n"
 
 
-NOT_PROVED = "fn c::a::f: not proved\n"
+def left(function):
+    return f"note: src/a.rt:4:1: it is not proved that what the function ensures holds when it returns (`returns`); `search` gave up at one of its limits\n{function}"
+
+
+NOT_PROVED = "fn c::a::f: not proved; it stands on `Rattle.c.proofs.a.f.Answers.returns`, which antt refuses\n"
+CITES = "fn c::a::f: not proved; it stands on `Rattle.c.proofs.A.l`, which antt refuses\n"
 CALLS = "fn c::a::f: not proved; it calls `c::a::g`, which is not proved\n"
-NO_PROOF = "fn c::a::f: no proof: expected `f-spec` in x/Proof.antt; `search` does not close `returns-2`\n"
+CALLS_BARE = "fn c::a::f: no proof: it calls `c::a::g`, which is not proved\n"
+NO_PROOF = "fn c::a::f: no proof: expected answers in ./proofs/a/f/Answers.antt; `search` did not prove `returns`\n"
 PASS = [
+    (ROUND, error("returns", GOAL) + NOT_PROVED),
     (ROUND, error("returns", GOAL) + CALLS),
-    (ROUND, error("help", GOAL) + lacks("returns", "help") + NOT_PROVED),
-    (ROUND, error("f-spec", "as printed, the two types first differ") + NOT_PROVED),
-    (ROUND, error("returns", GOAL, file="proofs/a/+f/Proof.antt") + NOT_PROVED),
-    (ROUND, NO_PROOF),
-    (ROUND + "# and\nold: one + N\nnew: 4\n", NO_PROOF),
-    (ROUND.replace("old: one", "old: u32 = 7"), NO_PROOF),
-    (ROUND.replace("old: one", "old: u32 = 8"), NO_PROOF),
-    (LAW, error("l", GOAL, file="proofs/A.antt")),
+    (ROUND, error("help", GOAL) + depends("help") + NOT_PROVED),
+    (ROUND, error("returns", "as printed, the two types first differ") + NOT_PROVED),
+    (ROUND, error("returns", GOAL, "proofs/a/+f/Answers.antt") + NOT_PROVED),
+    (ROUND, error("returns", GOAL, "proofs/a/f/Invariants.antt") + NOT_PROVED),
+    (ROUND, error("returns-2", "`goal.returns-2`: module `f.Goals` has no `returns-2` that can be named from here") + left(NOT_PROVED)),
+    (ROUND, left(NO_PROOF)),
+    (ROUND + "# and\nold: one + N\nnew: 4\n", left(NO_PROOF)),
+    (ROUND.replace("old: one", "old: u32 = 7"), left(NO_PROOF)),
+    (ROUND.replace("old: one", "old: u32 = 8"), left(NO_PROOF)),
+    (LAW, error("l", GOAL, LAWS)),
 ]
 FAIL = [  # what it is, what is said of it, the round, the log
     ("no log", "not tried", ROUND, None),
     ("an empty log", "no error of its own", ROUND, ""),
     ("proved", "no error of its own", ROUND, "fn c::a::f: proved\n"),
-    ("it only calls", "no error of its own", ROUND, lacks("f-spec", "close") + CALLS),
-    ("it only cites", "no error of its own", ROUND, lacks("returns", "law") + NOT_PROVED),
-    ("a need that is not there", "no error of its own", ROUND, error("returns-2", "`tie.Need-returns-2`: module `f.Tie` has no `Need-returns-2` that can be named from here") + NOT_PROVED),
+    ("it only calls", "no error of its own", ROUND, CALLS),
+    ("it only calls, and has no proof file", "no error of its own", ROUND, CALLS_BARE),
+    ("it only cites", "no error of its own", ROUND, error("l", GOAL, LAWS) + depends("l") + CITES),
+    ("a goal that is not there", "no error of its own", ROUND, error("returns-2", "`goal.returns-2`: module `f.Goals` has no `returns-2` that can be named from here") + NOT_PROVED),
     ("a name that is not there", "no error of its own", ROUND, error("returns", "`x` is not in scope") + NOT_PROVED),
-    ("a helper that no need lacks", "no error of its own", ROUND, error("help", GOAL) + NOT_PROVED),
-    ("an error of another function", "no error of its own", ROUND, error("returns", GOAL, file="proofs/a/g/Proof.antt") + NOT_PROVED),
-    ("another function without a proof", "no error of its own", ROUND, NO_PROOF.replace("c::a::f", "c::a::g")),
+    ("a helper that no answer cites", "no error of its own", ROUND, error("more", GOAL) + NOT_PROVED),
+    ("an error of another function", "no error of its own", ROUND, error("returns", GOAL, "proofs/a/g/Answers.antt") + NOT_PROVED),
+    ("another function without a proof", "no error of its own", ROUND, left(NO_PROOF.replace("c::a::f", "c::a::g"))),
+    ("the open goal of the function above", "no error of its own", ROUND, left(NO_PROOF.replace("c::a::f", "c::a::g")) + CALLS),
     ("an error, and no verdict", "no error of its own", ROUND, error("returns", GOAL)),
-    ("a law that only cites", "no error of its own", LAW, lacks("l", "k", file="proofs/A.antt")),
-    ("an error of another law", "no error of its own", LAW, error("k", GOAL, file="proofs/A.antt")),
-    ("the law's name in another file", "no error of its own", LAW, error("l", GOAL, file="proofs/B.antt")),
-    ("nothing named", "it names nothing", "file: src/a.rt\nold: one\nnew: 2\n", NO_PROOF),
-    ("a comment that says no more than a name", "has no comment", ROUND.replace(": why", ":"), NO_PROOF),
-    ("a replacement without a comment", "has no comment", ROUND + "old: one\nnew: 4\n", NO_PROOF),
-    ("an and with nothing above it", "has no comment", "# and\nold: one\nnew: 4\n" + ROUND, NO_PROOF),
-    ("a function named twice", "is named twice", ROUND + ROUND, NO_PROOF),
-    ("one of two without an error", "c::a::g has no error", ROUND + ROUND.replace("::f", "::g").replace("old: one", "old: two"), NO_PROOF),
-    ("another function than the edit's", "for an edit of g", ROUND.replace("old: one", "old: two"), NO_PROOF),
-    ("an and in another function", "for an edit of g", ROUND + "# and\nold: two\nnew: 4\n", NO_PROOF),
+    ("a law that only cites", "no error of its own", LAW, error("k", GOAL, LAWS) + depends("k", LAWS)),
+    ("an error of another law", "no error of its own", LAW, error("k", GOAL, LAWS)),
+    ("the law's name in another file", "no error of its own", LAW, error("l", GOAL, "proofs/B.antt")),
+    ("nothing named", "it names nothing", "file: src/a.rt\nold: one\nnew: 2\n", left(NO_PROOF)),
+    ("a comment that says no more than a name", "has no comment", ROUND.replace(": why", ":"), left(NO_PROOF)),
+    ("a replacement without a comment", "has no comment", ROUND + "old: one\nnew: 4\n", left(NO_PROOF)),
+    ("an and with nothing above it", "has no comment", "# and\nold: one\nnew: 4\n" + ROUND, left(NO_PROOF)),
+    ("a function named twice", "is named twice", ROUND + ROUND, left(NO_PROOF)),
+    ("one of two without an error", "c::a::g has no error", ROUND + ROUND.replace("::f", "::g").replace("old: one", "old: two"), left(NO_PROOF)),
+    ("another function than the edit's", "for an edit of g", ROUND.replace("old: one", "old: two"), left(NO_PROOF)),
+    ("an and in another function", "for an edit of g", ROUND + "# and\nold: two\nnew: 4\n", left(NO_PROOF)),
 ]
 
 

@@ -1,4 +1,4 @@
-// What other languages call, over the static library: `rt staticlib exports`. Numbers, slices and `#[repr(C)]` structs alone cross this boundary.
+// What other languages call, over the static library: `rt lib` in crates/exports. Numbers, slices and `#[repr(C)]` structs alone cross this boundary.
 #![tactic(auto)]
 
 pub mod layout; // its number

@@ -6,7 +6,13 @@ mod input; // all of standard input
 
 use list_steps::sample::sample_table;
 use list_steps::step::{list_step, start};
-use std::io;
+use std::process::ExitCode;
+
+// A message on standard error, and the status of a failure, which stands where that is gone too.
+fn complain(rt: &impl Eprint, words: &str) -> ExitCode {
+    let _ = eprintln!(rt; "listing: {words}");
+    ExitCode::FAILURE
+}
 
 // Line after line, until there are no more; false where one cannot be written.
 fn print(rt: &impl Print, recording: &[u8], scratch: &mut [u8]) -> bool {
@@ -35,15 +41,15 @@ fn print(rt: &impl Print, recording: &[u8], scratch: &mut [u8]) -> bool {
     }
 }
 
-fn main(rt: HostRuntime) -> io::Result<()> {
+fn main(rt: HostRuntime) -> ExitCode {
     let mut bytes = input::room();
     let mut scratch = [0u8; 65536];
     let got = input::read_all(&mut rt.reader(), &mut bytes);
     let input::Input::Bytes(n) = got else {
-        return eprintln!(rt; "listing: standard input cannot be read");
+        return complain(&rt, "standard input cannot be read");
     };
     if !print(&rt, &bytes[..n], &mut scratch) {
-        return eprintln!(rt; "listing: standard output cannot be written");
+        return complain(&rt, "standard output cannot be written");
     }
-    Ok(())
+    ExitCode::SUCCESS
 }
