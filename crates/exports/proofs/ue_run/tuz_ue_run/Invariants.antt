@@ -1,14 +1,6 @@
-use Rattle.std.proofs.Common.{◌≡◌, ◌-◌, ◌≤◌, sym, refl, ap, ◌∙◌, arith, rules}
-use native.Mathlib.Nat.{sub-zero}
-use Rattle.bits.specs.Answers.{as_read}
+use Rattle.std.proofs.Common.{◌≡◌, ◌-◌, ◌≤◌}
 use Rattle.bits.specs.Bits.{bits_of}
 use Rattle.exports.specs.Runs.{ue_run}
-use Rattle.exports.proofs.Runs.{step, stop, last}
-use Rattle.exports.proofs.ue_run.tuz_ue_run.Reads as reads
-use Rattle.exports.proofs.ue_run.tuz_ue_run.Lts as lts
-use Rattle.bits.proofs.read.Cursor.ue.Reads as ue-reads
-use Rattle.exports.proofs.ue_run.pack.Reads as pack-reads
-use Rattle.std.proofs.num.wrapping_add_u32.Reads as wrapping-add-u32-reads
 use Rattle.exports.proofs.ue_run.tuz_ue_run.Given as goal
 
 -- The invariant: what is left of the run, from here on, is the whole run.
