@@ -1,20 +1,20 @@
 -- A value that is written has so many bits: a law for each combinator, and lists of one entry again and again.
 use Prim.Native.Nat.{ℕ, zero, suc, ◌+◌, ◌*◌, ◌≤◌}
-use mathlib.Core.Path.{◌≡◌, refl, sym, ap, ◌∙◌}
-use mathlib.Core.List.{List, [], ◌∷◌, ◌++◌}
-use mathlib.Core.Bool.{Bool, true, false, not, ◌&&◌}
+use mathlib.Core.Path.{◌≡◌, ◌∙◌}
+use mathlib.Core.List.{◌++◌}
+use mathlib.Core.Bool.{Bool, not, ◌&&◌}
 use native.Mathlib.Omega.{arith}
-use native.Mathlib.Nat.{mul-suc, suc-mul}
+use native.Mathlib.Nat.{mul-suc}
 use lib.Dec.{T, eqb}
-use lib.ListN.{length, take, replicate, length-append, length-replicate}
+use lib.ListN.{length, replicate, length-append, length-replicate}
 use Rattle.fmt.specs.Fmt.{Fmt, seq, shaped, times, until}
-use Rattle.fmt.specs.Arrays.{pad, padded}
-use Rattle.fmt.proofs.Lawful.{both-T, T_true}
+use Rattle.fmt.specs.Arrays.{pad}
+use Rattle.fmt.proofs.Lawful.{both-T}
 use Rattle.fmt.proofs.Arrays.{unpad-pad, pad-padded}
 use Rattle.syntax.specs.declared.record.Operations.{Operations}
 use Rattle.syntax.specs.declared.record.WeightList.{WeightList}
 use Rattle.syntax.specs.declared.record.Weight.{Weight}
-use Rattle.syntax.specs.Lists.{entries, Operation, to_operations, of_operations, ok_operations, Kind, code, operands, operations}
+use Rattle.syntax.specs.Lists.{Operation, to_operations, of_operations, ok_operations, Kind, code, operands, operations}
 use Rattle.syntax.specs.SliceHeader.{weight, no_weight, is_no_weight, weight_list}
 use Rattle.syntax.proofs.Operations.{of-to-operations, ok-to-operations}
 

@@ -7,25 +7,24 @@ use native.Mathlib.Omega.{arith}
 use native.Mathlib.Nat.{mul-suc}
 use borrow.Author.Tests.{leb-false, ne_eqb}
 use lib.Dec.{T, eqb, leb, leb→le}
-use lib.IntN.{ℤ, pos, negsuc}
+use lib.IntN.{ℤ, pos}
 use lib.ListN.{length, length-append}
 use lib.Signed.{mag}
 use Rattle.bits.specs.Refusals.{pick}
 use Rattle.bits.specs.Codes.{width_of}
 use Rattle.bits.proofs.Results.{cases}
 use Rattle.fmt.specs.Fmt.{Fmt, seq, shaped, test, when, until}
-use Rattle.fmt.specs.Leaves.{flag, u, ue, se}
+use Rattle.fmt.specs.Leaves.{u, ue, se}
 use Rattle.fmt.proofs.Lawful.{both-0, both-1, T_true}
 use Rattle.fmt.proofs.Sizes.{Short, u-short, ue-short, se-short, shaped-short, test_short}
 use Rattle.table.specs.declared.table.Table.{Table}
 use Rattle.syntax.specs.declared.context.Context.{Context}
 use Rattle.syntax.specs.declared.marks.MarkedFlag.{MarkedFlag}
 use Rattle.syntax.specs.declared.record.Operations.{Operations}
-use Rattle.syntax.specs.Marks.{is_zero, is_zero_z, number_if, signed_if, flag_if, given}
-use Rattle.syntax.specs.Lists.{entries, of_operations, ok_operations, Kind, code, operands, operations, no_operations, is_no_operations, operations_if}
+use Rattle.syntax.specs.Marks.{is_zero_z, number_if, signed_if, flag_if, given}
+use Rattle.syntax.specs.Lists.{entries, of_operations, ok_operations, code, operands, operations, no_operations, is_no_operations, operations_if}
 use Rattle.syntax.specs.Context.{is_changing, qp_fits, qs_fits}
 use Rattle.syntax.specs.SliceHeader.{slice_type, picture_set_id, lead, frame, deltas, order_count, active_minus1, active_counts, modifications, pred_weight_table, marking_kind, dec_ref_pic_marking, offset_fits, quantiser, filter}
-use Rattle.syntax.proofs.Goods.{shaped_from, test-ok}
 use Rattle.syntax.proofs.Operations.{length-of-operations}
 use Rattle.syntax.proofs.Sizes.{then, u-most, number_if-short, signed_if-short, flag_if-short}
 use Rattle.syntax.proofs.ListSizes.{Within, short-within, within-le, seq-within, shaped-within, given-within, ue-small, code-short}

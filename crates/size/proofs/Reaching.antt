@@ -1,16 +1,14 @@
 -- Each part of a header can be as long as specs/Size says.
-use Prim.Native.Nat.{ℕ, ◌+◌, ◌*◌, ◌≤◌}
-use mathlib.Core.Path.{◌≡◌, refl, sym, ap, ◌∙◌}
+use Prim.Native.Nat.{ℕ, ◌+◌, ◌≤◌}
+use mathlib.Core.Path.{◌≡◌, refl}
 use mathlib.Core.Bool.{Bool, true, false}
 use native.Mathlib.Omega.{arith}
 use lib.Count.{count_leading_zeros}
-use lib.Dec.{T}
 use lib.IntN.{pos, negsuc}
-use lib.ListN.{length}
 use Rattle.bits.specs.Bits.{digits, number_of}
 use Rattle.bits.specs.Codes.{ue_zeros, ue_bits, se_code}
 use Rattle.bits.specs.Width.{least_from, change_cycle_width}
-use Rattle.fmt.specs.Fmt.{Fmt, nothing, seq, shaped, test, when, times, until}
+use Rattle.fmt.specs.Fmt.{Fmt, nothing, seq, shaped, test, when}
 use Rattle.fmt.specs.Leaves.{flag, u, ue, se}
 use Rattle.table.specs.declared.table.Table.{Table}
 use Rattle.table.specs.Sets.{all, sequence_fits, picture_fits}

@@ -24,7 +24,7 @@ use Rattle.unit.specs.declared.head.UnitHead.{UnitHead}
 use Rattle.unit.specs.declared.head.HeadRead.{HeadRead}
 use Rattle.unit.specs.declared.begin.Begun.{Begun}
 use Rattle.unit.specs.Begin.{absent_extension, type_in, has_extension, prefix_kind, extended, by_type, typed, with_header, begun, first_of, begun_by}
-use Rattle.unit.specs.Head.{head_with, head_extended, head_typed, head_first, head_of, equal, same_head}
+use Rattle.unit.specs.Head.{head_with, head_typed, head_first, head_of, equal, same_head}
 
 -- ---- a first byte, and the one made of its head
 

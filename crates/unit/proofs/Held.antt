@@ -1,6 +1,6 @@
 -- A unit read into lent words: each body's answer and what it leaves in the words, and the words cleared after a refusal.
 use Prim.Native.Nat.{ℕ}
-use mathlib.Core.Path.{◌≡◌, refl, sym, ap, ◌∙◌}
+use mathlib.Core.Path.{◌≡◌, refl, sym, ◌∙◌}
 use mathlib.Core.List.{List}
 use native.Mathlib.Omega.{arith}
 use Rattle.bits.specs.Bits.{Bits}
@@ -14,14 +14,11 @@ use Rattle.syntax.specs.declared.record.Prefix.{Prefix}
 use Rattle.syntax.specs.SliceHeader.{read_header}
 use Rattle.syntax.specs.Prefix.{prefix}
 use Rattle.fields.specs.declared.step.End.{End}
-use Rattle.lists.specs.declared.list_words.PrefixShort.{PrefixShort}
 use Rattle.lists.specs.declared.list_words.PrefixStep.{PrefixStep}
 use Rattle.lists.specs.Leaves.{leaves}
 use Rattle.lists.specs.ListsLent.{prefix_step, prefix_left}
-use Rattle.header.specs.Short.{HeaderWords, zeros, header_end, header_left}
-use Rattle.parameter_sets.specs.declared.sequence.SequenceSet.{SequenceSet}
+use Rattle.header.specs.Short.{HeaderWords, header_end, header_left}
 use Rattle.parameter_sets.specs.declared.sequence.SequenceSetStep.{SequenceSetStep}
-use Rattle.parameter_sets.specs.declared.picture.PictureSet.{PictureSet}
 use Rattle.parameter_sets.specs.declared.picture.PictureSetStep.{PictureSetStep}
 use Rattle.parameter_sets.specs.SequenceSet.{sequence_set}
 use Rattle.parameter_sets.specs.SequenceSteps.{as_sequence_set}

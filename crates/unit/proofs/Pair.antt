@@ -1,14 +1,14 @@
 -- A unit's head and its body, read in turn, are the unit read at once.
 use Prim.Native.Nat.{ℕ}
-use mathlib.Core.Path.{◌≡◌, refl, ap, sym, subst⁻¹, ◌∙◌}
+use mathlib.Core.Path.{◌≡◌, refl, sym, subst⁻¹}
 use mathlib.Core.List.{List}
-use mathlib.Core.Bool.{Bool, true, false}
+use mathlib.Core.Bool.{true, false}
 use native.Mathlib.Omega.{arith}
 use borrow.Author.Tests.{eq-eqb}
 use lib.Dec.{leb, eqb, eqb→eq}
 use lib.IntN.{pos}
 use lib.ListN.{length}
-use Rattle.bits.specs.Refusals.{pick, refusal, too_large, limit}
+use Rattle.bits.specs.Refusals.{refusal, limit}
 use Rattle.bits.specs.declared.refusals.Refusal.{Refusal}
 use Rattle.bits.proofs.Results.{cases}
 use Rattle.nal.specs.declared.header.NalHeader.{NalHeader}
@@ -22,7 +22,7 @@ use Rattle.unit.specs.declared.head.UnitHead.{UnitHead}
 use Rattle.unit.specs.declared.head.HeadRead.{HeadRead}
 use Rattle.unit.specs.declared.begin.Begun.{Begun}
 use Rattle.unit.specs.Begin.{type_in, is_plain, has_extension, with_extension, typed, with_header, begun}
-use Rattle.unit.specs.Unit.{UnitOut, untouched, after_begin, unit_read}
+use Rattle.unit.specs.Unit.{untouched, unit_read}
 use Rattle.unit.specs.Head.{not_its_head, head_extended, head_typed, head_first, head_of, equal, same_head, body_read, in_turn}
 
 -- types 1 and 5 have no extension

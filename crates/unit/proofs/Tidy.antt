@@ -2,15 +2,14 @@
 -- among the words, and needs none: a prefix unit's list stands alone in it whatever the words were.
 use Prim.Native.Nat.{ℕ}
 use native.Mathlib.Omega.{arith}
-use mathlib.Core.Path.{◌≡◌, refl, subst, sym, ◌∙◌}
+use mathlib.Core.Path.{◌≡◌, refl, ◌∙◌}
 use mathlib.Core.Bool.{Bool, true, false}
 use mathlib.Core.List.{List}
 use lib.Dec.{T, leb}
 use lib.IntN.{pos}
-use lib.ListN.{length, drop, replicate}
+use lib.ListN.{length, drop}
 use Rattle.bits.specs.Bits.{Bits, bytes_bits}
 use Rattle.bits.specs.Refusals.{Res, got, no, pick, refusal, buffer_too_short}
-use Rattle.fmt.specs.Fmt.{seq, shaped}
 use Rattle.fmt.specs.Arrays.{pad}
 use Rattle.fmt.proofs.Any.{exact-at}
 use Rattle.escape.specs.Body.{body, start_with}
@@ -29,7 +28,7 @@ use Rattle.parameter_sets.specs.SequenceSet.{sequence_set}
 use Rattle.parameter_sets.specs.PictureSet.{picture_set}
 use Rattle.lists.specs.ListsLent.{list_words}
 use Rattle.lists.proofs.Tidy.{list-padded}
-use Rattle.header.specs.Short.{HeaderWords, zeros, Tidy, header_alone}
+use Rattle.header.specs.Short.{Tidy, header_alone}
 use Rattle.header.proofs.Tidy.{InOrder, operations_if-ok, read-in-order, zeros-tidy, tidy-over, header-alone, header-tidy}
 use Rattle.unit.specs.declared.answer.UnitAnswer.{UnitAnswer}
 use Rattle.unit.specs.declared.answer.UnitRead.{UnitRead}

@@ -1,6 +1,5 @@
 use mathlib.Core.Path.{sym}
 use Rattle.size.proofs.InWords.{bound-places}
-use borrow.Author.Rules.{rules}
 use Rattle.size.proofs.most.header_bound.Goals as goal
 
 pub returns : goal.returns

@@ -1,6 +1,5 @@
 use native.Mathlib.Omega.{arith}
 use Rattle.size.specs.Size.{most_bits}
-use borrow.Author.Rules.{rules}
 use Rattle.size.proofs.most.most_bits.Goals as goal
 
 pub returns : goal.returns

@@ -1,5 +1,4 @@
 use Rattle.unit.specs.Begin.{begun_by}
-use borrow.Author.Rules.{rules}
 use Rattle.unit.proofs.begin.begun_by.Goals as goal
 
 pub returns-then-either : goal.returns-then-either

@@ -1,6 +1,5 @@
 use borrow.Author.Tests.{eq-eqb, ne_eqb}
 use Rattle.unit.specs.Begin.{extended}
-use borrow.Author.Rules.{rules}
 use Rattle.unit.proofs.begin.extended.Goals as goal
 
 pub returns-then-type_id-eq14 : goal.returns-then-type_id-eq14

@@ -1,6 +1,5 @@
 use borrow.Author.Tests.{le-leb, lt-leb}
 use Rattle.unit.specs.Head.{head_of}
-use borrow.Author.Rules.{rules}
 use Rattle.unit.proofs.head.head.Goals as goal
 
 pub returns-then-unit-gt-LIMIT : goal.returns-then-unit-gt-LIMIT

@@ -1,6 +1,5 @@
 use native.Mathlib.Omega.{arith}
 use Rattle.nal.proofs.ThreeBytes.{no-extension, with-extension}
-use borrow.Author.Rules.{rules}
 use Rattle.unit.proofs.head.head_extended.Goals as goal
 
 pub returns-then-unit-lt4 : goal.returns-then-unit-lt4

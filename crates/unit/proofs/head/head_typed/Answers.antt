@@ -1,5 +1,4 @@
 use Rattle.unit.specs.Head.{head_typed}
-use borrow.Author.Rules.{rules}
 use Rattle.unit.proofs.head.head_typed.Goals as goal
 
 pub returns-then-has_extension : goal.returns-then-has_extension

@@ -3,7 +3,6 @@ use lib.Seq.{length-take-le}
 use Rattle.unit.specs.Unit.{prefix_bits}
 use Rattle.unit.proofs.Opened.{written, opened, closed}
 use Rattle.unit.proofs.Held.{body-taken, none-taken}
-use borrow.Author.Rules.{rules}
 use Rattle.unit.proofs.into.body_into.Goals as goal
 
 pub slice_bounds-prefix_into-end : goal.slice_bounds-prefix_into-end

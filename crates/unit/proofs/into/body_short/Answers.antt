@@ -1,4 +1,3 @@
-use borrow.Author.Rules.{rules}
 use Rattle.unit.proofs.into.body_short.Goals as goal
 
 pub returns-in-Got : goal.returns-in-Got

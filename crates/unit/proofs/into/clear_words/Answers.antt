@@ -1,4 +1,3 @@
-use borrow.Author.Rules.{rules}
 use Rattle.unit.proofs.into.clear_words.Goals as goal
 
 pub returns : goal.returns

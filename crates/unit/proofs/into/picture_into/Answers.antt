@@ -3,7 +3,6 @@ use lib.Seq.{length-take-le}
 use Rattle.unit.specs.Unit.{picture_bits}
 use Rattle.unit.proofs.Opened.{written, opened, closed}
 use Rattle.unit.proofs.Held.{picture-taken, none-taken}
-use borrow.Author.Rules.{rules}
 use Rattle.unit.proofs.into.picture_into.Goals as goal
 
 pub slice_bounds-picture_set-end : goal.slice_bounds-picture_set-end

@@ -1,6 +1,5 @@
 use Rattle.header.specs.Lead.{table_of}
 use Rattle.unit.proofs.Known.{none-known-body}
-use borrow.Author.Rules.{rules}
 use Rattle.unit.proofs.into.read_body_into.Goals as goal
 
 pub returns : goal.returns

@@ -1,6 +1,5 @@
 use Rattle.unit.specs.declared.into.ShortAnswer.{ShortAnswer}
 use Rattle.unit.proofs.Held.{kept, cleared}
-use borrow.Author.Rules.{rules}
 use Rattle.unit.proofs.into.read_into.Goals as goal
 
 pub take-requires : goal.take-requires

@@ -3,7 +3,6 @@ use Rattle.header.specs.Lead.{table_of}
 use Rattle.unit.proofs.Begun.{begun-own}
 use Rattle.unit.proofs.Held.{refused-into}
 use Rattle.unit.proofs.Known.{known-own, known-other}
-use borrow.Author.Rules.{rules}
 use Rattle.unit.proofs.into.read_known_into.Goals as goal
 
 pub returns-then-not-is_head_of : goal.returns-then-not-is_head_of

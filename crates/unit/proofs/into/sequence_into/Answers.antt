@@ -3,7 +3,6 @@ use lib.Seq.{length-take-le}
 use Rattle.unit.specs.Unit.{sequence_bits}
 use Rattle.unit.proofs.Opened.{written, opened, closed}
 use Rattle.unit.proofs.Held.{sequence-taken, none-taken}
-use borrow.Author.Rules.{rules}
 use Rattle.unit.proofs.into.sequence_into.Goals as goal
 
 pub slice_bounds-sequence_set-end : goal.slice_bounds-sequence_set-end

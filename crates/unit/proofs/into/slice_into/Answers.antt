@@ -4,7 +4,6 @@ use Rattle.header.specs.Lead.{table_of}
 use Rattle.unit.specs.Unit.{slice_bits}
 use Rattle.unit.proofs.Opened.{written, opened, closed}
 use Rattle.unit.proofs.Held.{slice_taken, none-taken}
-use borrow.Author.Rules.{rules}
 use Rattle.unit.proofs.into.slice_into.Goals as goal
 
 pub slice_bounds-read_header_into-end : goal.slice_bounds-read_header_into-end

@@ -1,4 +1,3 @@
-use borrow.Author.Rules.{rules}
 use Rattle.unit.proofs.into.slice_short.Goals as goal
 
 pub returns-in-At : goal.returns-in-At

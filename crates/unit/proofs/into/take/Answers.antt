@@ -2,7 +2,6 @@ use mathlib.Core.Path.{refl, sym, ◌∙◌}
 use Rattle.unit.specs.Known.{unit_known}
 use Rattle.unit.proofs.Cases.{begun-small}
 use Rattle.unit.proofs.Held.{other-taken, none-taken}
-use borrow.Author.Rules.{rules}
 use Rattle.unit.proofs.into.take.Goals as goal
 
 pub slice_into-requires : goal.slice_into-requires

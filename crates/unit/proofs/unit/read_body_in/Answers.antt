@@ -1,6 +1,5 @@
 use Rattle.header.specs.Lead.{table_of}
 use Rattle.unit.proofs.Whole.{body-whole}
-use borrow.Author.Rules.{rules}
 use Rattle.unit.proofs.unit.read_body_in.Goals as goal
 
 pub shape_of-scratch : goal.shape_of-scratch
