@@ -1,15 +1,15 @@
 -- Writing a header by cases, once the unit's kind is known: 25, 26, or the bits; and what an answer of bits says.
-use Prim.Native.Nat.{ℕ, ◌+◌, ◌≤◌, ◌<◌}
+use Prim.Native.Nat.{ℕ, ◌≤◌, ◌<◌}
 use mathlib.Core.Path.{◌≡◌, refl, sym, ap, ◌∙◌}
 use mathlib.Core.List.{List}
-use mathlib.Core.Bool.{Bool, true, false}
+use mathlib.Core.Bool.{true, false}
 use native.Mathlib.Omega.{arith}
 use native.Mathlib.Nat.{zero-add}
 use borrow.Author.Tests.{le-leb, lt-leb, leb-true, leb-false}
 use lib.Dec.{T, leb}
 use lib.IntN.{pos}
 use lib.ListN.{length}
-use Rattle.bits.specs.Refusals.{pick, refusal, no_bits, buffer_too_short}
+use Rattle.bits.specs.Refusals.{refusal, no_bits, buffer_too_short}
 use Rattle.bits.specs.Bits.{Bits, bits_of}
 use Rattle.bits.specs.Put.{written, put_bits, bytes_for}
 use Rattle.bits.specs.declared.refusals.Refusal.{Refusal}

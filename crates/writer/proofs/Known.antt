@@ -1,7 +1,7 @@
 -- The header's format once its sets are known: it is the format by the table, and a buffer of 6,144 bytes has room for its bits.
-use Prim.Native.Nat.{ℕ, ◌+◌, ◌*◌, ◌≤◌, ◌<◌}
+use Prim.Native.Nat.{ℕ, ◌*◌, ◌≤◌, ◌<◌}
 use mathlib.Core.Path.{◌≡◌, refl, sym, ap, ap₂, subst, subst⁻¹, ◌∙◌}
-use mathlib.Core.List.{List, ◌++◌}
+use mathlib.Core.List.{List}
 use mathlib.Core.Bool.{Bool, true, false, ◌&&◌, and_assoc}
 use native.Mathlib.Omega.{arith}
 use native.Mathlib.Nat.{zero-add}
@@ -9,9 +9,9 @@ use lib.Dec.{T, leb, eqb}
 use lib.IntN.{pos}
 use lib.ListN.{length}
 use Rattle.bits.specs.declared.read.Cursor.{Cursor}
-use Rattle.bits.specs.Refusals.{pick, refusal, no_bits}
-use Rattle.bits.specs.Bits.{Bits, bits_of}
-use Rattle.bits.specs.Put.{written, bytes_for}
+use Rattle.bits.specs.Refusals.{refusal, no_bits}
+use Rattle.bits.specs.Bits.{Bits}
+use Rattle.bits.specs.Put.{written}
 use Rattle.bits.proofs.Results.{cases}
 use Rattle.fmt.specs.Fmt.{seq, shaped, test}
 use Rattle.fmt.specs.Leaves.{ue}
@@ -26,7 +26,7 @@ use Rattle.table.specs.Tables.{picture_at, sequence_at}
 use Rattle.syntax.specs.declared.context.UnitKind.{UnitKind}
 use Rattle.syntax.specs.declared.context.Context.{Context}
 use Rattle.syntax.specs.declared.record.SliceHeader.{SliceHeader}
-use Rattle.syntax.specs.Context.{picture_for, sequence_id_for, sequence_for, width_for, context_for}
+use Rattle.syntax.specs.Context.{sequence_for, width_for, context_for}
 use Rattle.syntax.specs.SliceHeader.{picture_set_id, lead, of_header, header}
 use Rattle.syntax.proofs.Sizes.{then, slice_type-short}
 use Rattle.syntax.proofs.Sets.{Few, defaults-few}
@@ -34,7 +34,7 @@ use Rattle.syntax.proofs.HeaderSize.{parts-short}
 use Rattle.header.specs.Short.{HeaderWords}
 use Rattle.record.specs.Record.{header_from, plain_numbers, plain}
 use Rattle.writer.specs.declared.sets.SetsFor.{SetsFor}
-use Rattle.writer.specs.Write.{with_picture, with_sequence, sets_for, HeaderOut, untouched, out_of, bits_out}
+use Rattle.writer.specs.Write.{with_picture, with_sequence, sets_for, untouched, out_of, bits_out}
 use Rattle.writer.specs.Places.{nowhere, PutTo}
 use Rattle.writer.specs.Stages.{fields, fields_out, is_known, known_out, copied}
 use Rattle.writer.proofs.Stages.{done_at, stopped-at}

@@ -1,36 +1,30 @@
 -- The loop that writes a list of operations: what holds when the first i entries have been written, what a turn adds, and what each way out shows.
 use Prim.Native.Nat.{ℕ, ◌+◌, ◌*◌, ◌≤◌, ◌<◌}
-use mathlib.Core.Path.{◌≡◌, refl, sym, ◌∙◌, subst, subst⁻¹}
-use mathlib.Core.List.{List, [], ◌∷◌}
-use mathlib.Core.Bool.{Bool, true, false, ◌&&◌}
+use mathlib.Core.Path.{◌≡◌, refl}
+use mathlib.Core.List.{List}
 use native.Mathlib.Omega.{arith}
-use native.Mathlib.Numerals.{add-one}
 use native.Mathlib.Decide.{dec_lt}
-use lib.Dec.{T, leb}
+use lib.Dec.{leb}
 use lib.IntN.{pos}
-use lib.ListN.{length, take, drop, get_or}
-use lib.Seq.{get_or-take}
+use lib.ListN.{get_or}
 use borrow.Author.Tests.{eq-eqb, ne_eqb}
 use Rattle.bits.specs.declared.read.Cursor.{Cursor}
 use Rattle.bits.specs.declared.put.Wrote.{Wrote}
 use Rattle.bits.specs.declared.put.Wrote.TheVariants.{Refused}
 use Rattle.fmt.specs.Fmt.{test, until}
 use Rattle.fmt.specs.Leaves.{ue}
-use Rattle.fmt.specs.Arrays.{padded}
 use Rattle.fmt.specs.Put.{Put}
-use Rattle.fmt.proofs.Lawful.{both-0, both-1, T_true}
-use Rattle.fmt.proofs.Arrays.{length-unpad}
-use Rattle.fmt.proofs.Puts.{Stopped, stopped, shaped-put, shaped-none}
+use Rattle.fmt.proofs.Lawful.{T_true}
+use Rattle.fmt.proofs.Puts.{Stopped, stopped, shaped-put}
 use Rattle.fmt.proofs.PutLoops.{Ahead, ahead_none, ahead-closed, ahead-closes, ahead-stop, ahead-stop-operand, ahead-next}
 use Rattle.syntax.specs.declared.record.Operations.{Operations}
-use Rattle.syntax.specs.Marks.{is_zero}
-use Rattle.syntax.specs.Lists.{Kind, entries, Operation, joined, of_operations, ok_operations, code, operands, operations}
+use Rattle.syntax.specs.Lists.{Kind, entries, of_operations, ok_operations, code, operands, operations}
 use Rattle.lists.specs.declared.operations.ListKind.{ListKind}
 use Rattle.lists.specs.Kinds.{kind_of}
 use Rattle.writer.specs.Places.{nowhere, PutTo}
 use Rattle.record.specs.Entries.{operations_from}
 use Rattle.writer.proofs.Entries.{entry_at, operations-many, operations-ok, operation-at}
-use Rattle.writer.proofs.Stages.{refused, leads, done_at, stopped-at, from-nowhere, leads-nowhere, Loop, going, over}
+use Rattle.writer.proofs.Stages.{refused, leads, done_at, stopped-at, from-nowhere, Loop, going, over}
 
 -- ---- the loop
 

@@ -1,10 +1,9 @@
 -- A good record has passed the writer's checks: its sets are in the table, and it is no scalable slice's.
 use Prim.Native.Nat.{ℕ}
 use mathlib.Core.Path.{◌≡◌, refl, ap}
-use mathlib.Core.Bool.{Bool, true, false}
+use mathlib.Core.Bool.{Bool, false}
 use lib.Dec.{T, leb}
-use lib.IntN.{ℤ, pos}
-use Rattle.bits.specs.Refusals.{pick}
+use lib.IntN.{ℤ}
 use Rattle.fmt.specs.Fmt.{Fmt, test}
 use Rattle.fmt.proofs.Lawful.{both-1, T_true, not-T-false}
 use Rattle.table.specs.declared.sets.Picture.{Picture}
@@ -19,7 +18,7 @@ use Rattle.syntax.specs.Context.{is_there, is_there_too, picture_for, sequence_i
 use Rattle.syntax.specs.SliceHeader.{picture_set_id, lead, not_scalable, modifications, parts, header}
 use Rattle.syntax.proofs.Goods.{seq-first, seq-rest, shaped_from, test-ok}
 use Rattle.writer.specs.declared.sets.SetsFor.{SetsFor}
-use Rattle.writer.specs.Write.{with_picture, sets_for}
+use Rattle.writer.specs.Write.{sets_for}
 
 -- the sets that an id names are in the table
 pub record Found (t : Table) (id : ℕ) : Type 0 where

@@ -1,19 +1,16 @@
 -- The writer's theorems, for every table, unit, record and buffer: what is written reads back, what was read is written as it stood, and 25 is given exactly
 -- where no bits read to the record.
-use Prim.Native.Nat.{ℕ, ◌+◌, ◌≤◌}
+use Prim.Native.Nat.{ℕ, ◌≤◌}
 use mathlib.Core.Path.{◌≡◌, refl, sym, ap, subst, ◌∙◌}
 use mathlib.Core.List.{List, ◌++◌}
-use mathlib.Core.Bool.{true, false}
-use native.Mathlib.Omega.{arith}
+use mathlib.Core.Bool.{true}
 use native.Mathlib.Nat.{zero-add}
-use lib.Dec.{T}
 use lib.IntN.{pos}
 use lib.ListN.{length, take, drop}
 use lib.Seq.{take_at}
 use Rattle.bits.specs.Refusals.{got, refusal, no_bits, limit}
 use Rattle.bits.specs.Bits.{Bits, bits_of}
 use Rattle.bits.specs.Put.{put_bits, bytes_for}
-use Rattle.bits.proofs.Results.{cases}
 use Rattle.bits.proofs.Buffers.{round_trip}
 use Rattle.table.specs.declared.table.Table.{Table}
 use Rattle.syntax.specs.declared.context.UnitKind.{UnitKind}
@@ -23,18 +20,17 @@ use Rattle.syntax.proofs.Header as syntax
 use Rattle.syntax.proofs.HeaderSize.{header-most}
 use Rattle.syntax.specs.Absent.{no_prefix}
 use Rattle.unit.specs.declared.answer.UnitAnswer.{UnitAnswer}
-use Rattle.unit.specs.declared.answer.UnitRead.{UnitRead}
 use Rattle.unit.specs.Answer.{slice_answer}
 use Rattle.unit.specs.Unit.{unit_read}
 use Rattle.writer.specs.declared.given.ExtensionGiven.{ExtensionGiven}
 use Rattle.writer.specs.declared.given.KindGiven.{KindGiven}
 use Rattle.writer.specs.declared.write.HeaderWrote.{HeaderWrote}
 use Rattle.writer.specs.Given.{kind_given}
-use Rattle.writer.specs.Write.{HeaderOut, untouched, bits_out, write_header}
+use Rattle.writer.specs.Write.{HeaderOut, untouched, write_header}
 use Rattle.writer.proofs.Passed.{Found, sets-found, not-scalable}
-use Rattle.writer.proofs.Answers.{Wrote, wrote, goes_on, out_none, out-bits, good-written}
+use Rattle.writer.proofs.Answers.{wrote, goes_on, out_none, out-bits, good-written}
 use Rattle.writer.proofs.Room.{room-bits}
-use Rattle.writer.proofs.Units.{Starts, Begins, begins, tells, starts, first_of, extension_in, body_of, starts-body, body_bits, SliceRead, slice-reads, slice-read}
+use Rattle.writer.proofs.Units.{Starts, begins, tells, starts, first_of, extension_in, body_of, starts-body, body_bits, slice-reads, slice-read}
 
 -- bits put at the front stand there
 front-bits : (d : List ℕ) (l : Bits) → length l ≤ length (bits_of d) → take (length l) (bits_of (put_bits d 0 l)) ≡ l

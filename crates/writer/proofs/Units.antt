@@ -1,11 +1,11 @@
 -- Units that are read as slices: what their first bytes say is what the writer is told, and their body's header is what reading the unit answers.
-use Prim.Native.Nat.{ℕ, ◌+◌, ◌≤◌}
+use Prim.Native.Nat.{ℕ, ◌≤◌}
 use mathlib.Core.Path.{◌≡◌, refl, sym, ap, subst, subst⁻¹, ◌∙◌}
 use mathlib.Core.List.{List, [], ◌∷◌}
 use mathlib.Core.Bool.{Bool, true, false, true≢false, ◌||◌}
 use native.Mathlib.Omega.{arith}
-use borrow.Author.Tests.{le-leb, leb-true, lt-leb}
-use lib.Dec.{T, leb, eqb, eqb→eq}
+use borrow.Author.Tests.{le-leb, leb-true}
+use lib.Dec.{leb, eqb, eqb→eq}
 use lib.ListN.{length, get_or, drop}
 use Rattle.bits.specs.Refusals.{Res, got, no, pick, limit}
 use Rattle.bits.specs.Bits.{Bits, bytes_bits}
@@ -32,7 +32,7 @@ use Rattle.unit.specs.declared.answer.UnitAnswer.{UnitAnswer}
 use Rattle.unit.specs.declared.answer.UnitRead.{UnitRead}
 use Rattle.unit.specs.declared.begin.Begun.{Begun}
 use Rattle.unit.specs.Answer.{only, slice_answer, prefix_answer, sequence_answer, picture_answer}
-use Rattle.unit.specs.Begin.{absent_extension, type_in, is_plain, has_extension, extended, without_extension, typed, with_header, begun}
+use Rattle.unit.specs.Begin.{absent_extension, type_in, is_plain, has_extension, extended, without_extension, typed, begun}
 use Rattle.unit.specs.Unit.{in_body, slice_bits, prefix_bits, sequence_bits, picture_bits, after_begin, unit_read}
 use Rattle.unit.proofs.Cases.{begun-small}
 use Rattle.writer.specs.declared.given.ExtensionGiven.{ExtensionGiven}

@@ -1,7 +1,6 @@
-use mathlib.Core.Path.{refl, ◌∙◌}
+use mathlib.Core.Path.{refl}
 use Rattle.writer.proofs.Stages.{on, shaped_to}
 use Rattle.syntax.specs.SliceHeader.{active_counts, active_minus1}
-use borrow.Author.Rules.{rules}
 use Rattle.writer.proofs.counts.put_active_counts.Goals as goal
 
 pub returns : goal.returns

@@ -1,7 +1,6 @@
-use mathlib.Core.Path.{refl, ◌∙◌}
+use mathlib.Core.Path.{refl}
 use Rattle.writer.proofs.Stages.{on, shaped_to}
 use Rattle.syntax.specs.SliceHeader.{frame}
-use borrow.Author.Rules.{rules}
 use Rattle.writer.proofs.frame.put_frame.Goals as goal
 
 pub returns : goal.returns

@@ -1,5 +1,4 @@
 use Rattle.writer.specs.Given.{kind_given}
-use borrow.Author.Rules.{rules}
 use Rattle.writer.proofs.given.kind_given.Goals as goal
 
 pub returns-in-Got : goal.returns-in-Got

@@ -6,7 +6,6 @@ use borrow.Author.Tests.{not-true, not-false}
 use mir.Facts.{to_z_pos}
 use mir.Syntax.{w64}
 use Rattle.writer.specs.Given.{typed}
-use borrow.Author.Rules.{rules}
 use Rattle.writer.proofs.given.typed.Goals as goal
 
 pub returns-then-either : goal.returns-then-either

@@ -1,7 +1,6 @@
 use mathlib.Core.Path.{refl}
 use Rattle.syntax.specs.SliceHeader.{dec_ref_pic_marking}
 use Rattle.writer.proofs.Stages.{on, shaped_to}
-use borrow.Author.Rules.{rules}
 use Rattle.writer.proofs.marking.put_marking.Goals as goal
 
 pub put_operations_if-requires : goal.put_operations_if-requires

@@ -1,5 +1,4 @@
 use Rattle.writer.proofs.Fields.{number-there, number-absent, number-unfit}
-use borrow.Author.Rules.{rules}
 use Rattle.writer.proofs.marks.put_bits_if.Goals as goal
 
 pub returns-then-not-fitting : goal.returns-then-not-fitting

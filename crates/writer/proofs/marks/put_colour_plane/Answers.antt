@@ -3,7 +3,6 @@ use mathlib.Core.Bool.{not}
 use borrow.Author.Tests.{eq-eqb, ne_eqb}
 use Rattle.fmt.proofs.Puts.{test-none}
 use Rattle.writer.proofs.Stages.{leads-nowhere, test-to}
-use borrow.Author.Rules.{rules}
 use Rattle.writer.proofs.marks.put_colour_plane.Goals as goal
 
 pub returns-then-v-ne3 : goal.returns-then-v-ne3

@@ -1,5 +1,4 @@
 use Rattle.writer.proofs.Fields.{flag-there, flag-absent, flag-unfit}
-use borrow.Author.Rules.{rules}
 use Rattle.writer.proofs.marks.put_flag_if.Goals as goal
 
 pub returns-then-not-fitting : goal.returns-then-not-fitting

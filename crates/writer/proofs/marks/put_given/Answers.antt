@@ -1,6 +1,5 @@
 use borrow.Author.Tests.{eq-eqb, ne_eqb}
 use Rattle.writer.proofs.Fields.{given-there, given-absent, given-unfit}
-use borrow.Author.Rules.{rules}
 use Rattle.writer.proofs.marks.put_given.Goals as goal
 
 pub returns-then-there : goal.returns-then-there

@@ -1,7 +1,6 @@
 use mathlib.Core.Path.{ap}
 use mathlib.Core.Bool.{not}
 use Rattle.writer.proofs.Fields.{given-there, given-absent, given-unfit}
-use borrow.Author.Rules.{rules}
 use Rattle.writer.proofs.marks.put_given_flag.Goals as goal
 
 pub returns-then-there : goal.returns-then-there

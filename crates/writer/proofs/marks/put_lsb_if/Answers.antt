@@ -1,4 +1,3 @@
-use borrow.Author.Rules.{rules}
 use Rattle.fields.proofs.Cases.{as-width}
 use Rattle.writer.proofs.marks.put_lsb_if.Goals as goal
 

@@ -1,7 +1,6 @@
 use Rattle.fmt.specs.Leaves.{ue}
 use Rattle.fmt.proofs.Puts.{put_of}
 use Rattle.writer.proofs.Stages.{told}
-use borrow.Author.Rules.{rules}
 use Rattle.writer.proofs.marks.put_number.Goals as goal
 
 pub returns : goal.returns

@@ -2,7 +2,6 @@ use mathlib.Core.Path.{sym, ◌∙◌}
 use mir.Facts.{to_z-of_z}
 use Rattle.fmt.proofs.Puts.{test-none}
 use Rattle.writer.proofs.Stages.{leads-nowhere, test-to}
-use borrow.Author.Rules.{rules}
 use Rattle.writer.proofs.marks.put_offset.Goals as goal
 
 pub returns-then-offset_fits : goal.returns-then-offset_fits

@@ -2,7 +2,6 @@ use mir.Facts.{to_z-of_z}
 use Rattle.fmt.specs.Leaves.{se}
 use Rattle.fmt.proofs.Puts.{put_of}
 use Rattle.writer.proofs.Stages.{told}
-use borrow.Author.Rules.{rules}
 use Rattle.writer.proofs.marks.put_signed.Goals as goal
 
 pub returns : goal.returns

@@ -1,7 +1,6 @@
 use borrow.Author.Tests.{le-leb, lt-leb}
 use Rattle.fmt.proofs.Puts.{test-none}
 use Rattle.writer.proofs.Stages.{leads-nowhere, test-to}
-use borrow.Author.Rules.{rules}
 use Rattle.writer.proofs.marks.put_tested.Goals as goal
 
 pub returns-then-v-most : goal.returns-then-v-most

@@ -1,7 +1,6 @@
 use mathlib.Core.Path.{refl}
 use Rattle.syntax.specs.SliceHeader.{modification}
 use Rattle.writer.proofs.Stages.{on, shaped_to}
-use borrow.Author.Rules.{rules}
 use Rattle.writer.proofs.modification.put_modification.Goals as goal
 
 pub returns : goal.returns

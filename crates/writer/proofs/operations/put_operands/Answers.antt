@@ -1,6 +1,5 @@
 use Rattle.syntax.specs.Lists.{operands}
 use Rattle.writer.proofs.Stages.{on}
-use borrow.Author.Rules.{rules}
 use Rattle.writer.proofs.operations.put_operands.Goals as goal
 
 pub returns : goal.returns

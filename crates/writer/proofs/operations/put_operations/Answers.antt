@@ -1,9 +1,6 @@
-use Prim.Native.Nat.{◌-◌, ◌<◌, ◌≤◌}
-use mathlib.Core.Path.{◌≡◌, refl, ◌∙◌}
+use mathlib.Core.Path.{refl, ◌∙◌}
 use native.Mathlib.Omega.{arith}
-use lib.ListN.{length}
-use Rattle.writer.proofs.OperationLoop.{Listing, listing_none, listing-closed, listing-closes, listing-next}
-use borrow.Author.Rules.{rules}
+use Rattle.writer.proofs.OperationLoop.{listing_none, listing-closed, listing-closes, listing-next}
 use Rattle.writer.proofs.operations.put_operations.Goals as goal
 
 pub loop-i-init : goal.loop-i-init

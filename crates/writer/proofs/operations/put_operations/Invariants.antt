@@ -1,9 +1,7 @@
-use Prim.Native.Nat.{◌-◌, ◌<◌, ◌≤◌}
-use mathlib.Core.Path.{◌≡◌, refl, ◌∙◌}
-use native.Mathlib.Omega.{arith}
+use Prim.Native.Nat.{◌-◌}
+use mathlib.Core.Path.{◌≡◌}
 use lib.ListN.{length}
-use Rattle.writer.proofs.OperationLoop.{Listing, listing_none, listing-closed, listing-closes, listing-next}
-use borrow.Author.Rules.{rules}
+use Rattle.writer.proofs.OperationLoop.{Listing}
 use Rattle.writer.proofs.operations.put_operations.Given as goal
 
 abbrev pub invariant-loop-i : goal.invariant-loop-i

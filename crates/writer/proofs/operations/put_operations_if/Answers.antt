@@ -1,9 +1,8 @@
-use mathlib.Core.Path.{sym, ◌∙◌}
+use mathlib.Core.Path.{◌∙◌}
 use borrow.Author.Tests.{eq-eqb, ne_eqb}
 use Rattle.syntax.specs.Lists.{operations_if}
 use Rattle.writer.proofs.Entries.{none-held}
 use Rattle.writer.proofs.Fields.{given-there, given-absent, given-unfit}
-use borrow.Author.Rules.{rules}
 use Rattle.writer.proofs.operations.put_operations_if.Goals as goal
 
 pub returns-then-there : goal.returns-then-there

@@ -1,5 +1,4 @@
 use Rattle.syntax.specs.Context.{order_type}
-use mathlib.Core.Path.{◌∙◌}
 use mir.Facts.{to_z-of_z}
 use mir.Syntax.{w32}
 use mir.Val.{SFits}

@@ -1,7 +1,6 @@
-use mathlib.Core.Path.{refl, ◌∙◌}
+use mathlib.Core.Path.{refl}
 use Rattle.writer.proofs.Stages.{on, shaped_to}
 use Rattle.syntax.specs.SliceHeader.{order_count}
-use borrow.Author.Rules.{rules}
 use Rattle.writer.proofs.order.put_order_count.Goals as goal
 
 pub returns : goal.returns

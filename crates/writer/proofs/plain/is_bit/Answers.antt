@@ -1,5 +1,4 @@
 use mathlib.Core.Path.{◌∙◌}
-use borrow.Author.Rules.{rules}
 use Rattle.writer.proofs.PlainLoop.{bit-bits}
 use Rattle.writer.proofs.plain.is_bit.Goals as goal
 

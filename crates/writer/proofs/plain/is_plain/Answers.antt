@@ -1,6 +1,5 @@
 use mathlib.Core.Path.{sym, ◌∙◌}
 use Rattle.writer.proofs.PlainLoop.{plain-counts}
-use borrow.Author.Rules.{rules}
 use Rattle.writer.proofs.plain.is_plain.Goals as goal
 
 pub returns-then-not-is_plain_numbers : goal.returns-then-not-is_plain_numbers

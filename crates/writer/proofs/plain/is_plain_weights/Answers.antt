@@ -1,4 +1,4 @@
-use Prim.Native.Nat.{◌-◌, ◌+◌, ◌*◌}
+use Prim.Native.Nat.{◌+◌, ◌*◌}
 use mathlib.Core.Path.{◌≡◌, sym, ◌∙◌}
 use native.Mathlib.Omega.{arith}
 use lib.IntN.{pos}
@@ -6,8 +6,8 @@ use lib.ListN.{get_or}
 use mir.Facts.{to_z-of_z}
 use mir.Syntax.{w32}
 use mir.Val.{SFits}
-use borrow.Author.Rules.{rules, sfits_of}
-use Rattle.writer.proofs.PlainLoop.{Plain, flags_at, plain-none, plain-found, plain-next, plain-all}
+use borrow.Author.Rules.{rules}
+use Rattle.writer.proofs.PlainLoop.{flags_at, plain-none, plain-found, plain-next, plain-all}
 use Rattle.writer.proofs.plain.is_plain_weights.Goals as goal
 
 pub loop-i-init : goal.loop-i-init

@@ -1,4 +1,4 @@
-use mathlib.Core.Path.{refl, ◌∙◌}
+use mathlib.Core.Path.{refl}
 use Rattle.writer.proofs.Stages.{on, shaped_to}
 use mir.Facts.{to_z-of_z}
 use mir.Syntax.{w32}

@@ -2,7 +2,6 @@ use mathlib.Core.Path.{refl}
 use Rattle.syntax.specs.SliceHeader.{pred_weight_table}
 use Rattle.writer.proofs.Stages.{on, shaped_to}
 use Rattle.writer.proofs.Shapes.{number-when}
-use borrow.Author.Rules.{rules}
 use Rattle.writer.proofs.weight_table.put_pred_weight_table.Goals as goal
 
 pub put_weight_list-requires : goal.put_weight_list-requires

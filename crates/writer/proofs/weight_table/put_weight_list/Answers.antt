@@ -1,9 +1,6 @@
-use Prim.Native.Nat.{◌-◌, ◌≤◌}
-use mathlib.Core.Path.{◌≡◌, refl, sym, ◌∙◌}
+use mathlib.Core.Path.{refl, ◌∙◌}
 use native.Mathlib.Omega.{arith}
-use lib.ListN.{length}
-use borrow.Author.Rules.{rules}
-use Rattle.writer.proofs.WeightLoop.{Weighing, other-count, weighing-none, weighing-all, weighing-next}
+use Rattle.writer.proofs.WeightLoop.{other-count, weighing-none, weighing-all, weighing-next}
 use Rattle.writer.proofs.weight_table.put_weight_list.Goals as goal
 
 pub returns-then-count-n : goal.returns-then-count-n

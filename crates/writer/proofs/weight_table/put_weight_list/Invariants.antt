@@ -1,9 +1,7 @@
-use Prim.Native.Nat.{◌-◌, ◌≤◌}
-use mathlib.Core.Path.{◌≡◌, refl, sym, ◌∙◌}
-use native.Mathlib.Omega.{arith}
+use Prim.Native.Nat.{◌-◌}
+use mathlib.Core.Path.{◌≡◌}
 use lib.ListN.{length}
-use borrow.Author.Rules.{rules}
-use Rattle.writer.proofs.WeightLoop.{Weighing, other-count, weighing-none, weighing-all, weighing-next}
+use Rattle.writer.proofs.WeightLoop.{Weighing}
 use Rattle.writer.proofs.weight_table.put_weight_list.Given as goal
 
 abbrev pub invariant-loop-i : goal.invariant-loop-i

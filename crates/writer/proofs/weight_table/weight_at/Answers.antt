@@ -6,7 +6,7 @@ use mir.Val.{SFits}
 use lib.IntN.{pos}
 use lib.ListN.{get_or}
 use Rattle.record.proofs.Taken.{zero_bits, weight-there}
-use borrow.Author.Rules.{rules, sfits_of}
+use borrow.Author.Rules.{sfits_of}
 use Rattle.writer.proofs.weight_table.weight_at.Goals as goal
 
 pub returns : goal.returns

@@ -1,5 +1,4 @@
 use Rattle.writer.proofs.Stages.{on}
-use borrow.Author.Rules.{rules}
 use Rattle.writer.proofs.whole.put_back.Goals as goal
 
 pub returns : goal.returns

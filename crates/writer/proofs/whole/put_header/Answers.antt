@@ -1,10 +1,8 @@
-use mathlib.Core.Path.{◌∙◌}
 use Rattle.syntax.specs.SliceHeader.{parts}
 use Rattle.syntax.proofs.Goods.{counts-few}
 use Rattle.record.specs.Fields.{frame_from, active_counts_from}
 use Rattle.record.specs.Record.{header_from}
 use Rattle.writer.proofs.Stages.{on-good, on, active-few}
-use borrow.Author.Rules.{rules}
 use Rattle.writer.proofs.whole.put_header.Goals as goal
 
 pub put_middle-requires : goal.put_middle-requires

@@ -1,6 +1,5 @@
 use Rattle.writer.proofs.Stages.{on}
 use Rattle.syntax.specs.SliceHeader.{slice_type}
-use borrow.Author.Rules.{rules}
 use Rattle.writer.proofs.whole.put_lead.Goals as goal
 
 pub returns : goal.returns

@@ -1,8 +1,6 @@
-use mathlib.Core.Path.{◌∙◌}
 use Rattle.record.specs.Record.{header_from}
 use Rattle.writer.proofs.PlainLoop.{plain-counts}
 use Rattle.writer.proofs.Stages.{on}
-use borrow.Author.Rules.{rules}
 use Rattle.writer.proofs.whole.put_middle.Goals as goal
 
 pub put_modifications-c1-requires : goal.put_modifications-c1-requires

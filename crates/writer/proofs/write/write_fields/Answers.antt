@@ -1,13 +1,12 @@
 use Prim.Native.Nat.{ℕ, ◌<◌}
-use mathlib.Core.Path.{◌≡◌, refl, ◌∙◌}
+use mathlib.Core.Path.{◌∙◌}
 use native.Mathlib.Omega.{arith}
-use lib.ListN.{length, replicate, length-replicate}
+use lib.ListN.{replicate, length-replicate}
 use Rattle.header.specs.Short.{HeaderWords}
 use Rattle.record.specs.Record.{header_from}
 use Rattle.writer.specs.Places.{nowhere}
 use Rattle.writer.specs.Write.{lent_words}
 use Rattle.writer.proofs.Known.{fields-done}
-use borrow.Author.Rules.{rules}
 use Rattle.writer.proofs.write.write_fields.Goals as goal
 
 pub put_header-c-requires : goal.put_header-c-requires
