@@ -7,7 +7,7 @@ use clap_complete::Shell;
 use std::fmt::Write;
 
 /// docs/TUZ.md
-const TEXT: &str = include_str!("../manual.md");
+const TEXT: &str = include_str!("../../../docs/TUZ.md");
 
 /// What a shell needs to complete the command's words.
 pub fn completions(shell: Shell, command: &mut Command) -> Vec<u8> {
