@@ -1,7 +1,7 @@
 -- Reading a header into lent words: where it ends, and what is left in the words of its fields and of its lists.
 use Rattle.std.specs.Prelude.{ℕ, ◌≡◌, Bool, true, false, List, [], ◌∷◌, ◌++◌, ℤ, pos, get_or, replicate}
 use Rattle.std.proofs.lemmas.List.Edits.{sets}
-use Rattle.std.specs.Borrow.{Bor}
+use Rattle.std.specs.Borrow.{MutBor}
 use denote.Triple.Both.{Both}
 use Rattle.bits.specs.Refusals.{Res, got, no}
 use Rattle.fmt.specs.Arrays.{pad}
@@ -126,7 +126,7 @@ pub record HeaderWords : Type 0 where
 
 -- an array that is lent, at entry and at exit
 abbrev pub Array : Type 0 → Type 0
-Array A = Both (Bor (List A)) (Bor (List A))
+Array A = Both (MutBor (List A)) (MutBor (List A))
 
 -- the words in the arrays that are lent
 abbrev pub header_words : Array ℕ → Array ℤ → Array ℕ → Array ℕ → Array ℕ → Array ℤ → Array ℤ → Both HeaderWords HeaderWords

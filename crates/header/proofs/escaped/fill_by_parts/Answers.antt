@@ -1,5 +1,4 @@
 use mathlib.Core.Path.{sym, ◌∙◌}
-use borrow.Author.Tests.{not-true}
 use Rattle.header.specs.Lead.{table_of}
 use Rattle.header.proofs.Tried.{tried-got, tried-no, tried-short, tried-far}
 use borrow.Author.Rules.{rules}
@@ -21,7 +20,7 @@ returns-then-unit-le-NEAR c =
 pub returns-then-not-may_change : goal.returns-then-not-may_change
 returns-then-not-may_change c =
     let a = c.args in
-    rw (← c.in-Refused.is) (tried-no (table_of a.sequences.now a.pictures.now) a.kind a.unit.now _ _ _ c.fill_near-a.ensures.filled _ c.in-Refused.is (sym c.may_change.ensures ∙ not-true _ c.if-not-may_change.true))
+    rw (← c.in-Refused.is) (tried-no (table_of a.sequences.now a.pictures.now) a.kind a.unit.now _ _ _ c.fill_near-a.ensures.filled _ c.in-Refused.is (sym c.may_change.ensures ∙ c.if-not-may_change.true))
 
 pub returns : goal.returns
 returns c =

@@ -8,10 +8,12 @@ enum_told-1 c = search rules
 
 pub returns-in_default : goal.returns-in_default
 returns-in_default c =
-    rw (← part-is c.args.unit.now c.start_in-start.result c.args.from c.start_in-start.ensures)
-    (left-no _ _ _ _ _ c.fill_by_parts-a.ensures c.in_default.is c.clear_header.ensures)
+    let f = rw (part-is c.args.unit.now c.start_in-start.result c.args.from c.start_in-start.ensures) at c.fill_by_parts-a.ensures in
+    let p = left-no _ _ _ _ _ f c.in_default.is c.clear_header.ensures in
+    record { value = p.0; w1_value = p.1 }
 
 pub returns : goal.returns
 returns c =
-    rw (← part-is c.args.unit.now c.start_in-start.result c.args.from c.start_in-start.ensures)
-    (left-got _ _ _ _ c.empty_lists.ensures c.fill_by_parts-a.ensures c.in-At.is)
+    let f = rw (part-is c.args.unit.now c.start_in-start.result c.args.from c.start_in-start.ensures) at c.fill_by_parts-a.ensures in
+    let p = left-got _ _ _ _ c.empty_lists.ensures f c.in-At.is in
+    record { value = p.0; w1_value = p.1 }

@@ -15,14 +15,22 @@ enum_told-1 c = search rules
 pub returns-in_default : goal.returns-in_default
 returns-in_default c =
     let hg = sym c.first_flag-a1.ensures ∙ ap as_flag c.in_default.is in
-    (told-lists-no _ _ _ _ (first-no _ _ _ _ hg) (rw (c.why_flag.ensures, c.in_default.is)), (untouched _ _ _ _ _, untouched _ _ _ _ _))
+    record {
+      lists_told = told-lists-no _ _ _ _ (first-no _ _ _ _ hg) (rw (c.why_flag.ensures, c.in_default.is));
+      covered = untouched _ _ _ _ _;
+      covered_2 = untouched _ _ _ _ _;
+    }
 
 pub returns-in_default-a2 : goal.returns-in_default-a2
 returns-in_default-a2 c =
     let hg = sym c.first_flag-a1.ensures ∙ ap as_flag c.in-Got.is in
     let o = rw c.modification_kind-codes.ensures at c.operations_onto-a2.ensures in
     let ho = list-refused _ o.value c.in_default-a2.is in
-    (told-lists-no _ _ _ _ (l0-no _ _ _ _ hg ho) (rw (c.why_list.ensures, c.in_default-a2.is)), (l0-covered _ _ _ _ hg _ _ (list-covered _ _ _ _ _ _ o.words_after), untouched _ _ _ _ _))
+    record {
+      lists_told = told-lists-no _ _ _ _ (l0-no _ _ _ _ hg ho) (rw (c.why_list.ensures, c.in_default-a2.is));
+      covered = l0-covered _ _ _ _ hg _ _ (list-covered _ _ _ _ _ _ o.words_after);
+      covered_2 = untouched _ _ _ _ _;
+    }
 
 pub returns-in_default-a3 : goal.returns-in_default-a3
 returns-in_default-a3 c =
@@ -30,7 +38,11 @@ returns-in_default-a3 c =
     let o = rw c.modification_kind-codes.ensures at c.operations_onto-a2.ensures in
     let lo = list-onto _ _ _ _ _ o.value o.words_after c.in-Got-a2.is in
     let hh = sym (rw c.is_type.ensures at c.flag_if-a3.ensures) ∙ ap as_flag c.in_default-a3.is in
-    (told-lists-no _ _ _ _ (second-no _ _ _ _ hg lo.read hh) (rw (c.why_flag-in_default-a3.ensures, c.in_default-a3.is)), (l0-covered _ _ _ _ hg _ _ (list-covered _ _ _ _ _ _ o.words_after), untouched _ _ _ _ _))
+    record {
+      lists_told = told-lists-no _ _ _ _ (second-no _ _ _ _ hg lo.read hh) (rw (c.why_flag-in_default-a3.ensures, c.in_default-a3.is));
+      covered = l0-covered _ _ _ _ hg _ _ (list-covered _ _ _ _ _ _ o.words_after);
+      covered_2 = untouched _ _ _ _ _;
+    }
 
 pub returns-in_default-a4 : goal.returns-in_default-a4
 returns-in_default-a4 c =
@@ -40,7 +52,11 @@ returns-in_default-a4 c =
     let hh = sym (rw c.is_type.ensures at c.flag_if-a3.ensures) ∙ ap as_flag c.in-Got-a3.is in
     let p = rw c.modification_kind-codes.ensures at c.operations_onto-a4.ensures in
     let hp = list-refused _ p.value c.in_default-a4.is in
-    (told-lists-no _ _ _ _ (l1-no _ _ _ _ hg lo.read hh hp) (rw (c.why_list-in_default-a4.ensures, c.in_default-a4.is)), (l0-covered _ _ _ _ hg _ _ (list-covered _ _ _ _ _ _ o.words_after), l1-covered _ _ _ _ hg _ _ lo.read hh (list-covered _ _ _ _ _ _ p.words_after)))
+    record {
+      lists_told = told-lists-no _ _ _ _ (l1-no _ _ _ _ hg lo.read hh hp) (rw (c.why_list-in_default-a4.ensures, c.in_default-a4.is));
+      covered = l0-covered _ _ _ _ hg _ _ (list-covered _ _ _ _ _ _ o.words_after);
+      covered_2 = l1-covered _ _ _ _ hg _ _ lo.read hh (list-covered _ _ _ _ _ _ p.words_after);
+    }
 
 pub returns : goal.returns
 returns c =
@@ -49,7 +65,9 @@ returns c =
     let lo = list-onto _ _ _ _ _ o.value o.words_after c.in-Got-a2.is in
     let hh = sym (rw c.is_type.ensures at c.flag_if-a3.ensures) ∙ ap as_flag c.in-Got-a3.is in
     let p = rw c.modification_kind-codes.ensures at c.operations_onto-a4.ensures in
-    let lp = list-onto _ _ _ _ _ p.value p.words_after c.in-Got-a4.is in (
-      told-lists _ _ (both_read _ _ _ _ hg lo.read hh lp.read) (ap (λ (l : Lists). ListsStep.Got l c.in-Got-a4.c4) (lists-same lo.list lp.list lo.counted lp.counted)) lo.held lp.held,
-      (l0-covered _ _ _ _ hg _ _ (list-covered _ _ _ _ _ _ o.words_after), l1-covered _ _ _ _ hg _ _ lo.read hh (list-covered _ _ _ _ _ _ p.words_after)),
-    )
+    let lp = list-onto _ _ _ _ _ p.value p.words_after c.in-Got-a4.is in
+    record {
+      lists_told = told-lists _ _ (both_read _ _ _ _ hg lo.read hh lp.read) (ap (λ (l : Lists). ListsStep.Got l c.in-Got-a4.c4) (lists-same lo.list lp.list lo.counted lp.counted)) lo.held lp.held;
+      covered = l0-covered _ _ _ _ hg _ _ (list-covered _ _ _ _ _ _ o.words_after);
+      covered_2 = l1-covered _ _ _ _ hg _ _ lo.read hh (list-covered _ _ _ _ _ _ p.words_after);
+    }

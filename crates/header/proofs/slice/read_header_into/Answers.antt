@@ -6,7 +6,11 @@ pub enum_told-1 : goal.enum_told-1
 enum_told-1 c = search rules
 
 pub returns-in_default : goal.returns-in_default
-returns-in_default c = left-no _ _ _ _ _ c.fill-a.ensures.filled c.in_default.is c.clear_header.ensures
+returns-in_default c =
+    let p = left-no _ _ _ _ _ c.fill-a.ensures.filled c.in_default.is c.clear_header.ensures in
+    record { value = p.0; words = p.1 }
 
 pub returns : goal.returns
-returns c = left-got _ _ _ _ c.empty_lists.ensures c.fill-a.ensures.filled c.in-At.is
+returns c =
+    let p = left-got _ _ _ _ c.empty_lists.ensures c.fill-a.ensures.filled c.in-At.is in
+    record { value = p.0; words = p.1 }
