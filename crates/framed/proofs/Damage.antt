@@ -1,5 +1,5 @@
 -- What damage leaves: the units that end before it. A length says where the next one stands, so nothing holds of those behind it (Examples).
-use mathlib.Core.Path.{◌≡◌, refl, sym, ap, ◌∙◌}
+use mathlib.Core.Path.{◌≡◌, refl, sym, subst, ap, ◌∙◌}
 use mathlib.Core.List.{List, [], ◌∷◌, ◌++◌, append-nil}
 use mathlib.Core.Bool.{Bool, true, false}
 use Prim.Native.Nat.{ℕ, zero, suc, ◌+◌, ◌≤◌, ◌<◌}
@@ -74,7 +74,9 @@ before zero n (a ∷ b ∷ c ∷ d ∷ P) X h = go (dec_le (four a b c d) (lengt
           rest = i.rest;
           joined = rw (le-leb (four a b c d) (length (P ++ X)) l, le-leb (four a b c d) (length P) g, take-append-le (four a b c d) P X g) (ap (λ (us : List Span). span_by (n + 4) (four a b c d) P ∷ us) i.joined);
           late = rw e i.late;
-          early = rw (le-leb (four a b c d) (length P) g, e, le-leb (n + 4 + four a b c d) (n + 4 + length P) (omega arith)) (ap (λ (us : List Span). span_by (n + 4) (four a b c d) P ∷ us) i.early);
+          early =
+              subst (λ (m : ℕ). ends_by m (framed_at 0 n (a ∷ b ∷ c ∷ d ∷ P)) ≡ framed_at 0 n (a ∷ b ∷ c ∷ d ∷ P)) (sym e)
+              (rw (le-leb (four a b c d) (length P) g, le-leb (n + 4 + four a b c d) (n + 4 + length P) (omega arith)) (ap (λ (us : List Span). span_by (n + 4) (four a b c d) P ∷ us) i.early));
         }
     go (no g) ih =
         let q : length P < four a b c d = omega arith in

@@ -1,7 +1,6 @@
 -- The cases of a step, and what a caller goes by: `went` and `stopped`.
 use mathlib.Core.Path.{◌≡◌, refl, sym, ◌∙◌}
 use mathlib.Core.List.{List, [], ◌∷◌}
-use mathlib.Core.Logic.{inl, inr}
 use mathlib.Core.Bool.{Bool, true, false}
 use Prim.Native.Nat.{ℕ, ◌+◌, ◌≤◌, ◌<◌}
 use native.Mathlib.Omega.{arith}
@@ -56,13 +55,9 @@ module _ (s : List ℕ) (from : ℕ) where
     pub stopped : {r : Step} → r ≡ next_framed s from → NoUnit r → framed_at 0 from (drop from s) ≡ []
     stopped {r} e k = go (framed_at 0 from (drop from s)) (e ∙ sym stays)
       where
-        none : (p l m : ℕ) → NoUnit (Step.Unit p l m) → ⊥
-        none p l m (inl e) = omega arith
-        none p l m (inr e) = omega arith
-
         go : (us : List Span) → r ≡ step_to from (length s) us → us ≡ []
         go [] q = refl
-        go (u ∷ us) q = absurd (none u.place u.size u.next (rw q at k))
+        go (u ∷ us) q = absurd (k u.place u.size u.next q)
 
     pub went : {p l m : ℕ} → next_framed s from ≡ Step.Unit p l m → Went s from p l m
     went {p} {l} {m} e = go (dec_lt (from + 3) (length s)) (dec_lt (length s) (from + 4 + size_at s from))

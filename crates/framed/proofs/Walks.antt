@@ -40,8 +40,8 @@ framed-met : (s : List ℕ) → length s ≤ limit → Meets s (next_framed s) (
 framed-met s small =
     record {
       on = λ from p l n e. let w = went s from small e in (omega arith, w.there);
-      ended = λ from e. stopped s from small (sym e) (inl refl);
-      stopped = λ from r e. stopped s from small (sym e) (inr refl);
+      ended = λ from e. stopped s from small (sym e) (λ p l m q. cc);
+      stopped = λ from r e. stopped s from small (sym e) (λ p l m q. cc);
       past = λ from h. short-at s from (omega arith);
     }
 
@@ -129,8 +129,8 @@ module _ (s : List ℕ) (small : length s ≤ limit) where
       here e = rw e e
 
       go : (k : Step) → next_framed s from ≡ k → ((n : ℕ) → length s ≤ f + n → framed_at 0 (end_from n) (drop (end_from n) s) ≡ []) → framed_at 0 (end_from from) (drop (end_from from) s) ≡ []
-      go Step.End e ih = here (stopped s from small (sym e) (inl refl))
-      go (Step.Refused r) e ih = here (stopped s from small (sym e) (inr refl))
+      go Step.End e ih = here (stopped s from small (sym e) (λ p l m q. cc))
+      go (Step.Refused r) e ih = here (stopped s from small (sym e) (λ p l m q. cc))
       go (Step.Unit p l m) e ih =
           let w = went s from small e in
           let q : end_from from ≡ end_from m = ap (end_of from) w.there in

@@ -1,5 +1,5 @@
 -- The units of X ++ S, in two parts. Where S begins with a start code, none lies across the border: first come the units whose start code lies in X, then those of S. And the units whose end mark lies wholly before a place come first. A walk that carries something from unit to unit needs both.
-use mathlib.Core.Path.{◌≡◌, refl, ap, ◌∙◌}
+use mathlib.Core.Path.{◌≡◌, refl, sym, subst, ap, ap₂, ◌∙◌}
 use mathlib.Core.List.{List, [], ◌∷◌, ◌++◌}
 use mathlib.Core.Bool.{Bool, true, false, ◌&&◌, and-false, false≢true}
 use Prim.Native.Nat.{ℕ, suc, ◌+◌, ◌≤◌, ◌<◌}
@@ -53,10 +53,16 @@ abbrev pub Parted : ℕ → List Span → Type 0
 Parted k us = us ≡ starts_before k us ++ starts_from k us
 
 border-at : (n : ℕ) (X r : List ℕ) → Parted (n + length X) (units_at n (X ++ 0 ∷ 0 ∷ 1 ∷ r))
-border-at n [] r = let S : List ℕ = 0 ∷ 0 ∷ 1 ∷ r in rw (add-zero, none_in n n S (omega arith), all_from n n S (omega arith))
-border-at n (a ∷ []) r = let e : n + 1 ≡ suc n + 0 = omega arith in rw (code-last a 0 (1 ∷ r), e) (border-at (suc n) [] r)
-border-at n (a ∷ b ∷ []) r = let e : n + 2 ≡ suc n + 1 = omega arith in rw (code-last a b (0 ∷ 1 ∷ r), e) (border-at (suc n) (b ∷ []) r)
-border-at n (a ∷ b ∷ c ∷ Q) r = go (hit 1 (a ∷ b ∷ c ∷ Q)) (rw e at (border-at (suc n) (b ∷ c ∷ Q) r))
+border-at n [] r =
+    let S : List ℕ = 0 ∷ 0 ∷ 1 ∷ r in
+    subst (λ (k : ℕ). Parted k (units_at n S)) (sym (add-zero n)) (ap₂ (λ (us vs : List Span). us ++ vs) (sym (none_in n n S (omega arith))) (sym (all_from n n S (omega arith))))
+border-at n (a ∷ []) r =
+    let e : suc n + 0 ≡ n + 1 = omega arith in
+    rw (code-last a 0 (1 ∷ r)) (subst (λ (k : ℕ). Parted k (units_at (suc n) (0 ∷ 0 ∷ 1 ∷ r))) e (border-at (suc n) [] r))
+border-at n (a ∷ b ∷ []) r =
+    let e : suc n + 1 ≡ n + 2 = omega arith in
+    rw (code-last a b (0 ∷ 1 ∷ r)) (subst (λ (k : ℕ). Parted k (units_at (suc n) (b ∷ 0 ∷ 0 ∷ 1 ∷ r))) e (border-at (suc n) (b ∷ []) r))
+border-at n (a ∷ b ∷ c ∷ Q) r = go (hit 1 (a ∷ b ∷ c ∷ Q)) (subst (λ (k : ℕ). Parted k (units_at (suc n) (b ∷ c ∷ T))) e (border-at (suc n) (b ∷ c ∷ Q) r))
   where
     B : ℕ
     B = n + suc (suc (suc (length Q)))

@@ -1,5 +1,5 @@
 -- Each start code has one unit, and no other place has any: what `units` says, counted.
-use mathlib.Core.Path.{◌≡◌, refl}
+use mathlib.Core.Path.{◌≡◌, refl, sym, subst}
 use mathlib.Core.List.{List, [], ◌∷◌}
 use mathlib.Core.Bool.{Bool, true, false}
 use Prim.Native.Nat.{ℕ, zero, suc, ◌+◌, ◌<◌}
@@ -33,15 +33,15 @@ one_at n zero (a ∷ r) = go (hit 1 (a ∷ r)) (none-at (suc n) (n + 0 + 3) r (o
     go : (t : Bool) → stand_at (n + 0 + 3) (units_at (suc n) r) ≡ [] → length (stand_at (n + 0 + 3) (pick t (span_of n (drop 2 r) ∷ units_at (suc n) r) (units_at (suc n) r))) ≡ pick t 1 0
     go true ih = rw (eq-eqb (n + 3) (n + 0 + 3) (omega arith), ih)
     go false ih = rw ih
-one_at n (suc i) (a ∷ r) = go (hit 1 (a ∷ r)) (one_at (suc n) i r)
+one_at n (suc i) (a ∷ r) = go (hit 1 (a ∷ r)) (subst (λ (k : ℕ). length (stand_at k (units_at (suc n) r)) ≡ pick (hit 1 (drop i r)) 1 0) (sym e) (one_at (suc n) i r))
   where
     e : n + suc i + 3 ≡ suc n + i + 3
     e = omega arith
 
-    go : (t : Bool) → length (stand_at (suc n + i + 3) (units_at (suc n) r)) ≡ pick (hit 1 (drop i r)) 1 0
+    go : (t : Bool) → length (stand_at (n + suc i + 3) (units_at (suc n) r)) ≡ pick (hit 1 (drop i r)) 1 0
         → length (stand_at (n + suc i + 3) (pick t (span_of n (drop 2 r) ∷ units_at (suc n) r) (units_at (suc n) r))) ≡ pick (hit 1 (drop i r)) 1 0
-    go true ih = rw (e, ne_eqb (n + 3) (suc n + i + 3) (omega arith)) ih
-    go false ih = rw e ih
+    go true ih = rw (ne_eqb (n + 3) (n + suc i + 3) (omega arith)) ih
+    go false ih = ih
 
 pub one_unit : (i : ℕ) (s : List ℕ) → length (stand_at (i + 3) (units s)) ≡ pick (hit 1 (drop i s)) 1 0
 one_unit i s = rw zero-add at (one_at 0 i s)

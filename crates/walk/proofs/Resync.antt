@@ -1,5 +1,5 @@
 -- Demand 3 of the units of a recording: what stands before a start code, and what stands after an end mark, changes nothing of a unit.
-use mathlib.Core.Path.{◌≡◌, refl, ap, ◌∙◌}
+use mathlib.Core.Path.{◌≡◌, refl, sym, subst, ap, ◌∙◌}
 use mathlib.Core.List.{List, [], ◌∷◌, ◌++◌, map}
 use mathlib.Core.Bool.{Bool, true, false}
 use Prim.Native.Nat.{ℕ, suc, ◌+◌, ◌-◌, ◌≤◌, ◌<◌, min}
@@ -29,15 +29,15 @@ all_from n k (a ∷ r) h = go (hit 1 (a ∷ r)) (all_from (suc n) k r (omega ari
 -- the units whose start code lies in S are those of S
 in_tail : (n : ℕ) (X S : List ℕ) → starts_from (n + length X) (units_at n (X ++ S)) ≡ units_at (n + length X) S
 in_tail n [] S = rw add-zero (all_from n n S (omega arith))
-in_tail n (a ∷ X) S = go (hit 1 (a ∷ X ++ S)) (in_tail (suc n) X S)
+in_tail n (a ∷ X) S = go (hit 1 (a ∷ X ++ S)) (subst (λ (k : ℕ). starts_from k (units_at (suc n) (X ++ S)) ≡ units_at k S) (sym e) (in_tail (suc n) X S))
   where
     e : n + suc (length X) ≡ suc n + length X
     e = omega arith
 
-    go : (t : Bool) → starts_from (suc n + length X) (units_at (suc n) (X ++ S)) ≡ units_at (suc n + length X) S
+    go : (t : Bool) → starts_from (n + suc (length X)) (units_at (suc n) (X ++ S)) ≡ units_at (n + suc (length X)) S
         → starts_from (n + suc (length X)) (pick t (span_of n (drop 2 (X ++ S)) ∷ units_at (suc n) (X ++ S)) (units_at (suc n) (X ++ S))) ≡ units_at (n + suc (length X)) S
-    go true ih = rw (e, lt-leb (suc n + length X + 3) (n + 3) (omega arith)) ih
-    go false ih = rw e ih
+    go true ih = rw (lt-leb (n + suc (length X) + 3) (n + 3) (omega arith)) ih
+    go false ih = ih
 
 pub tail-units : (X S : List ℕ) → starts_from (length X) (units (X ++ S)) ≡ units_at (length X) S
 tail-units X S = rw zero-add at (in_tail 0 X S)
@@ -45,22 +45,28 @@ tail-units X S = rw zero-add at (in_tail 0 X S)
 -- counted from the end they are where they were, wherever they stand
 from_end : (n m : ℕ) (l : List ℕ) → map (to_end (n + length l)) (units_at n l) ≡ map (to_end (m + length l)) (units_at m l)
 from_end n m [] = refl
-from_end n m (a ∷ r) = go (hit 1 (a ∷ r)) (from_end (suc n) (suc m) r)
+from_end n m (a ∷ r) = go (hit 1 (a ∷ r)) (sym (ap ends e) ∙ from_end (suc n) (suc m) r ∙ ap ends' f)
   where
-    e : n + suc (length r) ≡ suc n + length r
+    e : suc n + length r ≡ n + suc (length r)
     e = omega arith
 
-    f : m + suc (length r) ≡ suc m + length r
+    f : suc m + length r ≡ m + suc (length r)
     f = omega arith
 
-    go : (t : Bool) → map (to_end (suc n + length r)) (units_at (suc n) r) ≡ map (to_end (suc m + length r)) (units_at (suc m) r)
+    ends : ℕ → List Span
+    ends k = map (to_end k) (units_at (suc n) r)
+
+    ends' : ℕ → List Span
+    ends' k = map (to_end k) (units_at (suc m) r)
+
+    go : (t : Bool) → map (to_end (n + suc (length r))) (units_at (suc n) r) ≡ map (to_end (m + suc (length r))) (units_at (suc m) r)
         → map (to_end (n + suc (length r))) (pick t (span_of n (drop 2 r) ∷ units_at (suc n) r) (units_at (suc n) r))
         ≡ map (to_end (m + suc (length r))) (pick t (span_of m (drop 2 r) ∷ units_at (suc m) r) (units_at (suc m) r))
     go true ih =
-        let g : suc n + length r - (n + 3) ≡ suc m + length r - (m + 3) = omega arith in
-        let h : suc n + length r - (n + 3 + upto 0 (drop 2 r)) ≡ suc m + length r - (m + 3 + upto 0 (drop 2 r)) = omega arith in
-        rw (e, f, g, h, ih)
-    go false ih = rw (e, f) ih
+        let g : n + suc (length r) - (n + 3) ≡ m + suc (length r) - (m + 3) = omega arith in
+        let h : n + suc (length r) - (n + 3 + upto 0 (drop 2 r)) ≡ m + suc (length r) - (m + 3 + upto 0 (drop 2 r)) = omega arith in
+        rw (g, h, ih)
+    go false ih = ih
 
 pub tail-end : (n : ℕ) (S : List ℕ) → map (to_end (n + length S)) (units_at n S) ≡ map (to_end (length S)) (units S)
 tail-end n S = rw (zero-add (length S)) at (from_end n 0 S)

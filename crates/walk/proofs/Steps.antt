@@ -1,12 +1,9 @@
 -- The cases of one step of a walk, for any table and reading.
 use mathlib.Core.Path.{◌≡◌, refl, ap}
-use mathlib.Core.List.{List, [], ◌∷◌}
-use mathlib.Core.Logic.{inl, inr}
+use mathlib.Core.List.{List}
 use mathlib.Core.Bool.{Bool, true, false}
 use Prim.Native.Nat.{ℕ, ◌+◌, ◌-◌, ◌≤◌, ◌<◌}
 use native.Mathlib.Omega.{arith}
-use denote.Enum.Declared.{tag_of}
-use types.Run.{OneOf}
 use lib.Dec.{leb}
 use borrow.Author.Tests.{le-leb, lt-leb, leb-false}
 use lib.IntN.{pos}
@@ -21,7 +18,6 @@ use Rattle.unit.specs.Into.{short_answer, Lent, words_after}
 use Rattle.front.specs.Front.{unit_front}
 use Rattle.walk.specs.declared.search.Found.{Found}
 use Rattle.walk.specs.declared.walk.Step.{Step}
-use Rattle.walk.specs.contracts.walk.Step.{the_type}
 use Rattle.walk.specs.Walk.{next_unit}
 use Rattle.walk.specs.Walked.{table_after, step_to, next_step, nothing, Reading, stepped, walked}
 use Rattle.walk.specs.WalkedInto.{WalkedInto, Turned}
@@ -70,7 +66,7 @@ module _ (s : List ℕ) (from : ℕ) where
 
 -- what is known where a step is not taken apart as a unit
 abbrev pub NoUnit : Step → Type 0
-NoUnit r = OneOf (1 ∷ 2 ∷ []) (tag_of the_type r)
+NoUnit r = (p l n : ℕ) → r ≡ Step.Unit p l n → ⊥
 
 -- the walks' steps
 pub walked_at : (t : Table) (s : List ℕ) (from : ℕ) (scratch : List ℕ) {k : Step} → next_step s from ≡ k → walked t s from scratch ≡ stepped unit_read t s scratch k
@@ -100,8 +96,7 @@ module _ (R : Reading) (t : Table) (s scratch : List ℕ) where
 
   pub none-into : (k : Step) → NoUnit k → (b : Lent) → WalkedInto (stepped R t s scratch k) (record { step = k; answer = ShortAnswer.Other 0 }) scratch t b b
   unfolding nothing only short_answer words_after
-  none-into (Step.Unit p l n) (inl e) b = absurd (omega arith)
-  none-into (Step.Unit p l n) (inr e) b = absurd (omega arith)
+  none-into (Step.Unit p l n) k b = absurd (k p l n refl)
   none-into Step.End k b = record { step = refl; answered = refl; left = refl; table = refl; words = refl }
   none-into (Step.Refused r) k b = record { step = refl; answered = refl; left = refl; table = refl; words = refl }
 

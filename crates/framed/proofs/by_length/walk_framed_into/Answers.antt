@@ -1,6 +1,5 @@
 use mathlib.Core.Path.{sym, ◌∙◌}
 use native.Mathlib.Omega.{arith}
-use borrow.Author.Rules.{rules}
 use Rattle.header.specs.Lead.{table_of}
 use Rattle.unit.specs.Unit.{unit_read}
 use Rattle.unit.proofs.Known.{none-known}
@@ -10,7 +9,7 @@ use Rattle.framed.proofs.Walks.{framed_at_lem}
 use Rattle.framed.proofs.by_length.walk_framed_into.Goals as goal
 
 pub returns-in_default : goal.returns-in_default
-returns-in_default c = rw (framed_at_lem (table_of c.args.sequences.now c.args.pictures.now) c.args.recording.now c.args.from c.args.scratch.now (sym c.next_framed-step.ensures)) (none-into _ _ _ _ _ c.in_default.keys2 _)
+returns-in_default c = rw (framed_at_lem (table_of c.args.sequences.now c.args.pictures.now) c.args.recording.now c.args.from c.args.scratch.now (sym c.next_framed-step.ensures)) (none-into unit_read _ c.args.recording.now c.args.scratch.now _ c.in_default.not-Unit _)
 
 pub overflow_add-end : goal.overflow_add-end
 overflow_add-end c = let w = found _ _ (sym c.next_framed-step.ensures ∙ c.in-Unit.is) in omega arith

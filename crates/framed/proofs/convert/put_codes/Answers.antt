@@ -1,4 +1,3 @@
-use borrow.Author.Rules.{rules}
 use mathlib.Core.Path.{◌≡◌, refl, sym, ◌∙◌}
 use Prim.Native.Nat.{◌≤◌, ◌-◌}
 use native.Mathlib.Omega.{arith}
@@ -18,8 +17,9 @@ shape_of-out-in_default c = c.loop-place.invariant.1.same
 
 pub returns-in_default : goal.returns-in_default
 returns-in_default c =
-    let e = stopped c.args.recording.now c.loop-place.i (omega arith) c.next_framed.ensures c.in_default.keys2 in
-    filled-all (rw e at c.loop-place.invariant.1)
+    let e = stopped c.args.recording.now c.loop-place.i (omega arith) c.next_framed.ensures c.in_default.not-Unit in
+    let all = filled-all (rw e at c.loop-place.invariant.1) in
+    record { value = all.0; out_after = all.1 }
 
 pub slice_bounds-put_unit-count : goal.slice_bounds-put_unit-count
 slice_bounds-put_unit-count c = let w = went c.args.recording.now c.loop-place.i (omega arith) (sym c.next_framed.ensures ∙ c.in-Unit.is) in omega arith
@@ -33,10 +33,11 @@ slice_bounds-put_unit-end c = let w = went c.args.recording.now c.loop-place.i (
 pub put_unit-o-requires : goal.put_unit-o-requires
 put_unit-o-requires c =
     let s = c.args.recording.now in
-    let f = c.place-1.given.0 in
+    let p = c.in-Unit.place in
+    let m = c.in-Unit.next in
     let w = went s c.loop-place.i (omega arith) (sym c.next_framed.ensures ∙ c.in-Unit.is) in
-    let l : f.1.1.0 - f.0 ≡ f.1.0 = omega arith in
-    unit-room start_code 0 0 0 1 (take (f.1.1.0 - f.0) (drop f.0 s)) w.there (rw l) refl c.loop-place.invariant.1 c.requires.1
+    let l : m - p ≡ c.in-Unit.field-1 = omega arith in
+    unit-room start_code 0 0 0 1 (take (m - p) (drop p s)) w.there (rw l) refl c.loop-place.invariant.1 c.requires.1
 
 pub loop-place-smaller : goal.loop-place-smaller
 loop-place-smaller c = let w = went c.args.recording.now c.loop-place.i (omega arith) (sym c.next_framed.ensures ∙ c.in-Unit.is) in omega arith
@@ -44,7 +45,8 @@ loop-place-smaller c = let w = went c.args.recording.now c.loop-place.i (omega a
 pub loop-place-preserved : goal.loop-place-preserved
 loop-place-preserved c =
     let s = c.args.recording.now in
-    let f = c.place-1.given.0 in
+    let p = c.in-Unit.place in
+    let m = c.in-Unit.next in
     let w = went s c.loop-place.i (omega arith) (sym c.next_framed.ensures ∙ c.in-Unit.is) in
-    let l : f.1.1.0 - f.0 ≡ f.1.0 = omega arith in
-    (omega arith, unit-put start_code 0 0 0 1 (take (f.1.1.0 - f.0) (drop f.0 s)) w.there (rw l) refl c.loop-place.invariant.1 c.requires.1 c.put_unit-o.result c.put_unit-o.new.out c.put_unit-o.ensures.value c.put_unit-o.ensures.out_after)
+    let l : m - p ≡ c.in-Unit.field-1 = omega arith in
+    (omega arith, unit-put start_code 0 0 0 1 (take (m - p) (drop p s)) w.there (rw l) refl c.loop-place.invariant.1 c.requires.1 c.put_unit-o.result c.put_unit-o.new.out c.put_unit-o.ensures.value c.put_unit-o.ensures.out_after)

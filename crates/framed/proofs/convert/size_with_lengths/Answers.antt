@@ -1,4 +1,3 @@
-use borrow.Author.Rules.{rules}
 use mathlib.Core.Path.{◌≡◌, sym, ◌∙◌}
 use Prim.Native.Nat.{◌≤◌, ◌-◌, ◌+◌, ◌*◌}
 use native.Mathlib.Omega.{arith}
@@ -21,18 +20,16 @@ returns-in_default c =
 pub overflow_add-o : goal.overflow_add-o
 overflow_add-o c =
     let s = c.args.recording.now in
-    let f = c.length-1.given.0 in
     let e = sym c.next_unit.ensures ∙ c.in-At.is in
-    let w = went s c.loop-length.i f.0 f.1.0 f.1.1.0 e in
+    let w = went s c.loop-length.i _ _ _ e in
     let p = place-behind s c.loop-length.i e in
     omega arith
 
 pub overflow_add-o-in-loop-length : goal.overflow_add-o-in-loop-length
 overflow_add-o-in-loop-length c =
     let s = c.args.recording.now in
-    let f = c.length-1.given.0 in
     let e = sym c.next_unit.ensures ∙ c.in-At.is in
-    let w = went s c.loop-length.i f.0 f.1.0 f.1.1.0 e in
+    let w = went s c.loop-length.i _ _ _ e in
     let p = place-behind s c.loop-length.i e in
     omega arith
 
@@ -43,9 +40,8 @@ pub loop-length-preserved : goal.loop-length-preserved
 loop-length-preserved c =
     let s = c.args.recording.now in
     let i = c.loop-length.i in
-    let f = c.length-1.given.0 in
     let e = sym c.next_unit.ensures ∙ c.in-At.is in
-    let w = went s i f.0 f.1.0 f.1.1.0 e in
+    let w = went s i _ _ _ e in
     let p = place-behind s i e in
-    let n = size-on f.1.0 w.there (part_length s f.0 f.1.0 (omega arith)) in
+    let n = size-on c.in-At.length w.there (part_length s c.in-At.place c.in-At.length (omega arith)) in
     (omega arith, omega arith, omega arith)

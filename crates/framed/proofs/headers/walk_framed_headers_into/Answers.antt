@@ -2,14 +2,14 @@ use mathlib.Core.Path.{sym, ◌∙◌}
 use mathlib.Core.List.{[]}
 use native.Mathlib.Omega.{arith}
 use Rattle.header.specs.Lead.{table_of}
+use Rattle.front.specs.Front.{unit_front}
 use Rattle.walk.proofs.Steps.{none-into, unit-into}
 use Rattle.framed.proofs.Steps.{found}
 use Rattle.framed.proofs.Walks.{framed-headers-at}
-use borrow.Author.Rules.{rules}
 use Rattle.framed.proofs.headers.walk_framed_headers_into.Goals as goal
 
 pub returns-in_default : goal.returns-in_default
-returns-in_default c = rw (framed-headers-at (table_of c.args.sequences.now c.args.pictures.now) c.args.recording.now c.args.from [] (sym c.next_framed-step.ensures)) (none-into _ _ _ _ _ c.in_default.keys2 _)
+returns-in_default c = rw (framed-headers-at (table_of c.args.sequences.now c.args.pictures.now) c.args.recording.now c.args.from [] (sym c.next_framed-step.ensures)) (none-into unit_front _ c.args.recording.now [] _ c.in_default.not-Unit _)
 
 pub overflow_add-end : goal.overflow_add-end
 overflow_add-end c = let w = found _ _ (sym c.next_framed-step.ensures ∙ c.in-Unit.is) in omega arith

@@ -1,4 +1,3 @@
-use borrow.Author.Rules.{rules}
 use mathlib.Core.Path.{◌≡◌, ◌∙◌}
 use Prim.Native.Nat.{◌+◌, ◌≤◌}
 use native.Mathlib.Omega.{arith}
@@ -17,7 +16,7 @@ pub bounds-out-at-4 : goal.bounds-out-at-4
 bounds-out-at-4 c = simp length-set (omega arith)
 
 pub shape_of-out : goal.shape_of-out
-shape_of-out c = c.copy_in.auto.1.0 ∙ simp length-set
+shape_of-out c = c.copy_in.auto.dst ∙ simp length-set
 
 pub returns : goal.returns
 returns c =

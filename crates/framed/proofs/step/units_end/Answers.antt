@@ -1,4 +1,3 @@
-use borrow.Author.Rules.{rules}
 use mathlib.Core.Path.{◌≡◌, refl, sym, ap, ◌∙◌}
 use Prim.Native.Nat.{◌-◌}
 use native.Mathlib.Omega.{arith}
@@ -12,7 +11,7 @@ loop-next-init c = refl
 
 pub returns-in_default : goal.returns-in_default
 returns-in_default c =
-    let e = stopped c.args.recording.now c.loop-next.i (omega arith) c.next_framed.ensures c.in_default.keys2 in
+    let e = stopped c.args.recording.now c.loop-next.i (omega arith) c.next_framed.ensures c.in_default.not-Unit in
     sym (rw e at c.loop-next.invariant)
 
 pub loop-next-smaller : goal.loop-next-smaller

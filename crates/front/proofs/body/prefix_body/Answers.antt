@@ -5,7 +5,6 @@ use Rattle.cut.specs.Seam.{body_bits, behind_bits, near}
 use lib.ListN.{take}
 use Rattle.cut.proofs.Seams.{cut-bits}
 use Rattle.front.proofs.Steps.{prefix-kept, prefix-refusal-kept}
-use borrow.Author.Rules.{rules}
 use Rattle.front.proofs.body.prefix_body.Goals as goal
 
 pub returns-then-unit-le-NEAR : goal.returns-then-unit-le-NEAR
@@ -15,7 +14,9 @@ pub returns-in_default : goal.returns-in_default
 returns-in_default c =
     let u = c.args.unit.now in
     let h = c.prefix_near-a.ensures in
-    rw (cut-bits u 4 near (omega arith) (omega arith)) (prefix-kept c.args.kind (body_bits (take near u) 4) (behind_bits u 4 near) h.value h.base_after _ _ c.in_default.is)
+    let e = cut-bits u 4 near (omega arith) (omega arith) in
+    let k = prefix-kept c.args.kind (body_bits (take near u) 4) (behind_bits u 4 near) h.value h.base_after _ _ c.in_default.is in
+    record { value = rw e k.0; base_after = rw e k.1 }
 
 pub returns-then-may_change : goal.returns-then-may_change
 returns-then-may_change c = c.prefix_far.ensures
@@ -24,4 +25,6 @@ pub returns : goal.returns
 returns c =
     let u = c.args.unit.now in
     let h = c.prefix_near-a.ensures in
-    rw (cut-bits u 4 near (omega arith) (omega arith)) (prefix-refusal-kept c.args.kind (body_bits (take near u) 4) (behind_bits u 4 near) (sym c.in-Refused.is ∙ h.value) h.base_after _ refl (sym c.may_change.ensures ∙ c.if-may_change.false))
+    let e = cut-bits u 4 near (omega arith) (omega arith) in
+    let k = prefix-refusal-kept c.args.kind (body_bits (take near u) 4) (behind_bits u 4 near) (sym c.in-Refused.is ∙ h.value) h.base_after _ refl (sym c.may_change.ensures ∙ c.if-may_change.false) in
+    record { value = rw e k.0; base_after = rw e k.1 }

@@ -3,7 +3,6 @@ use mathlib.Core.Path.{sym}
 use lib.Seq.{length-take-le}
 use Rattle.cut.proofs.Fronts.{far-prefix}
 use Rattle.cut.proofs.Firsts.{far-held, far-bits}
-use borrow.Author.Rules.{rules}
 use Rattle.front.proofs.body.prefix_far.Goals as goal
 
 pub slice_bounds-local-end : goal.slice_bounds-local-end
@@ -15,4 +14,7 @@ slice_bounds-prefix_into-end c = sym (length-take-le _ _ (far-held c.args.unit.n
 pub returns : goal.returns
 returns c =
     let u = c.args.unit.now in
-    rw (← far-prefix u 4 (omega arith) c.args.kind, ← far-bits u 4 (far-held u 4 c.far_body-n.ensures.value c.far_body-n.ensures.local_after).1) c.prefix_into.ensures
+    let f = far-prefix u 4 (omega arith) c.args.kind in
+    let e = far-bits u 4 (far-held u 4 c.far_body-n.ensures.value c.far_body-n.ensures.local_after).1 in
+    let h = c.prefix_into.ensures in
+    record { value = rw (← f, ← e) h.value; base_after = rw (← f, ← e) h.words_after }

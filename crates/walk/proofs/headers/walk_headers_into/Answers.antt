@@ -1,13 +1,13 @@
 use mathlib.Core.Path.{sym, ◌∙◌}
 use mathlib.Core.List.{[]}
 use native.Mathlib.Omega.{arith}
+use Rattle.front.specs.Front.{unit_front}
 use Rattle.walk.proofs.Chain.{went}
 use Rattle.walk.proofs.Steps.{found_at, headers-at, none-into, unit-into}
-use borrow.Author.Rules.{rules}
 use Rattle.walk.proofs.headers.walk_headers_into.Goals as goal
 
 pub returns-in_default : goal.returns-in_default
-returns-in_default c = rw (headers-at _ _ _ [] (sym c.next_step-step.ensures)) (none-into _ _ _ _ _ c.in_default.keys2 _)
+returns-in_default c = rw (headers-at _ _ _ [] (sym c.next_step-step.ensures)) (none-into unit_front _ c.args.recording.now [] _ c.in_default.not-Unit _)
 
 pub overflow_add-end : goal.overflow_add-end
 overflow_add-end c = let w = went _ _ _ _ _ (found_at _ _ (sym c.next_step-step.ensures ∙ c.in-Unit.is)) in omega arith

@@ -1,34 +1,29 @@
-use mathlib.Core.Path.{refl, sym}
-use mathlib.Core.Logic.{inl, inr}
+use mathlib.Core.Path.{sym}
 use native.Mathlib.Omega.{arith}
 use Prim.Native.Nat.{◌+◌, ◌-◌}
 use Rattle.unit.specs.Unit.{unit_read}
-use Rattle.walk.proofs.Chain.{Went, went}
+use Rattle.walk.proofs.Chain.{went}
 use Rattle.walk.proofs.Seen.{found_in, clear_in_lem, seen_turned}
 use Rattle.walk.proofs.Steps.{step-over, step-found, walked_at, none-into, unit-into}
-use borrow.Author.Rules.{rules}
 use Rattle.walk.proofs.walk.walk_into.Goals as goal
 
--- what the search found
-found : (c : goal.In-At-2) → let a = c.args in let f = c.found-1.given.0 in Went a.recording.now a.from f.0 f.1.0 f.1.1.0
-found c = went _ _ _ _ _ (found_in _ _ c.next_seen-seen.ensures c.in-At.is)
-
 pub returns-then-n-gt-LIMIT : goal.returns-then-n-gt-LIMIT
-returns-then-n-gt-LIMIT c = rw (walked_at _ _ _ _ (sym (step-over _ _ c.if-n-gt-LIMIT.true)), c.refuse.ensures) (none-into unit_read _ c.args.recording.now _ _ (inr refl) _)
+returns-then-n-gt-LIMIT c = rw (walked_at _ _ _ _ (sym (step-over _ _ c.if-n-gt-LIMIT.true)), c.refuse.ensures) (none-into unit_read _ c.args.recording.now _ _ (λ p l n e. cc) _)
 
 pub returns-in_default : goal.returns-in_default
-returns-in_default c = rw (walked_at _ _ _ _ (sym (step-found _ _ c.if-n-gt-LIMIT.false (found_in _ _ c.next_seen-seen.ensures c.in_default.is)))) (none-into unit_read _ c.args.recording.now _ _ (inl refl) _)
+returns-in_default c = rw (walked_at _ _ _ _ (sym (step-found _ _ c.if-n-gt-LIMIT.false (found_in _ _ c.next_seen-seen.ensures c.in_default.is)))) (none-into unit_read _ c.args.recording.now _ _ (λ p l n e. cc) _)
 
+-- what the search found
 pub overflow_add-end : goal.overflow_add-end
-overflow_add-end c = let w = found c.before in omega arith
+overflow_add-end c = let w = went _ _ _ _ _ (found_in _ _ c.next_seen-seen.ensures c.in-At.is) in omega arith
 
 pub slice_bounds-body_in_turn-end : goal.slice_bounds-body_in_turn-end
-slice_bounds-body_in_turn-end c = let w = found c.before.before.before in omega arith
+slice_bounds-body_in_turn-end c = let w = went _ _ _ _ _ (found_in _ _ c.next_seen-seen.ensures c.in-At.is) in omega arith
 
 pub returns : goal.returns
 returns c =
     let s = c.args.recording.now in
-    let f = c.found-1.given.0 in
+    let p = c.in-At.place in
     let e = found_in _ _ c.next_seen-seen.ensures c.in-At.is in
     rw (walked_at _ _ _ _ (sym (step-found _ _ c.if-n-gt-LIMIT.false e)))
-    (unit-into _ _ _ _ (seen_turned s f.0 (f.0 + f.1.0 - f.0) (clear_in_lem s _ c.next_seen-seen.ensures e) c.body_in_turn-answer.ensures))
+    (unit-into _ _ _ _ (seen_turned s p (p + c.in-At.length - p) (clear_in_lem s _ c.next_seen-seen.ensures e) c.body_in_turn-answer.ensures))
