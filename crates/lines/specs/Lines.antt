@@ -1,5 +1,5 @@
 -- The lines of a listing (docs/RULES.md, 'A listing, whole').
-use Rattle.std.specs.Prelude.{ℕ, ◌≤◌, ◌≡◌, List, [], ◌++◌, Bool, true, false, ℤ, pos, length, get_or}
+use Rattle.std.specs.Prelude.{ℕ, ◌≤◌, ◌≡◌, List, [], ◌++◌, Bool, false, ℤ, pos, length, get_or}
 use Rattle.std.proofs.lemmas.List.Edits.{sets}
 use Rattle.bits.specs.Refusals.{pick}
 use Rattle.bits.specs.declared.refusals.Refusal.{Refusal}

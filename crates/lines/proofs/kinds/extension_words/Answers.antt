@@ -1,4 +1,3 @@
-use borrow.Author.Rules.{rules}
 use native.Mathlib.Omega.{arith}
 use Rattle.lines.specs.Kinds.{extension_text}
 use Rattle.lines.proofs.Texts.{then}

@@ -1,4 +1,3 @@
-use borrow.Author.Rules.{rules}
 use Rattle.lines.proofs.kinds.head_words.Goals as goal
 
 pub returns-in-Got : goal.returns-in-Got

@@ -1,4 +1,3 @@
-use borrow.Author.Rules.{rules}
 use native.Mathlib.Omega.{arith}
 use Rattle.lines.specs.Lines.{broken_line}
 use Rattle.lines.proofs.Decimals.{decimal-64}

@@ -1,4 +1,3 @@
-use borrow.Author.Rules.{rules}
 use Rattle.lines.specs.Lines.{is_svc}
 use Rattle.lines.proofs.line.is_svc.Goals as goal
 

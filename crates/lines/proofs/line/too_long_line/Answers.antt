@@ -1,4 +1,3 @@
-use borrow.Author.Rules.{rules}
 use Rattle.lines.specs.Lines.{too_long_line}
 use native.Mathlib.Omega.{arith}
 use Rattle.lines.proofs.Texts.{written}

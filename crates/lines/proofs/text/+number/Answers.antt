@@ -1,4 +1,3 @@
-use Prim.Native.Nat.{◌<◌, ◌≤◌}
 use native.Mathlib.Omega.{arith}
 use native.Mathlib.Nat.{div-lt_self}
 use lib.Dec.{lit<}

@@ -1,4 +1,3 @@
-use borrow.Author.Rules.{rules}
 use Rattle.lines.proofs.Texts.{then}
 use Rattle.lines.proofs.text.field.Goals as goal
 

@@ -1,5 +1,4 @@
 use native.Mathlib.Omega.{arith}
-use borrow.Author.Rules.{rules}
 use Rattle.lines.proofs.Texts.{copied-text}
 use Rattle.lines.proofs.text.words.Goals as goal
 
