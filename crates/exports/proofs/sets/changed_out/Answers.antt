@@ -2,9 +2,6 @@ use Rattle.std.proofs.Common.{to_z-of_z, w64, SFits, rules}
 use Rattle.exports.specs.Sets.{changed_out}
 use Rattle.exports.proofs.sets.changed_out.Goals as goal
 
-pub enum_told-1 : goal.enum_told-1
-enum_told-1 c = search rules
-
 pub returns-in-Refused : goal.returns-in-Refused
 unfolding changed_out
 returns-in-Refused c =

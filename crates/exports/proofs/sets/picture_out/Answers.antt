@@ -6,9 +6,6 @@ use Rattle.exports.proofs.sets.no_picture.Reads as no-picture-reads
 use Rattle.table.proofs.words.picture_in.Reads as picture-in-reads
 use Rattle.exports.proofs.sets.picture_out.Goals as goal
 
-pub enum_told-1 : goal.enum_told-1
-enum_told-1 c = search rules
-
 pub returns-in-There : goal.returns-in-There
 unfolding picture_out
 returns-in-There c = rw (← c.picture_in.ensures, c.in-There.is)

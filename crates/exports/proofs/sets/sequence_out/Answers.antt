@@ -6,9 +6,6 @@ use Rattle.exports.proofs.sets.no_sequence.Reads as no-sequence-reads
 use Rattle.table.proofs.words.sequence_in.Reads as sequence-in-reads
 use Rattle.exports.proofs.sets.sequence_out.Goals as goal
 
-pub enum_told-1 : goal.enum_told-1
-enum_told-1 c = search rules
-
 pub returns-in-There : goal.returns-in-There
 unfolding sequence_out
 returns-in-There c = rw (← c.sequence_in.ensures, c.in-There.is)

@@ -1,9 +1,6 @@
 use Rattle.std.proofs.Common.{rules}
 use Rattle.exports.proofs.starts.tuz_unit_type.Goals as goal
 
-pub enum_told-1 : goal.enum_told-1
-enum_told-1 c = search rules
-
 pub returns-in-Type : goal.returns-in-Type
 returns-in-Type c = rw (c.kind.ensures, ← c.for_id.ensures, c.in-Type.is)
 

@@ -2,9 +2,6 @@ use Rattle.std.proofs.Common.{to_z-of_z, w64, SFits, rules}
 use Rattle.exports.specs.Walks.{came}
 use Rattle.exports.proofs.walks.come.Goals as goal
 
-pub enum_told-1 : goal.enum_told-1
-enum_told-1 c = search rules
-
 pub returns-in-Unit : goal.returns-in-Unit
 unfolding came
 returns-in-Unit c = rw c.in-Unit.is
