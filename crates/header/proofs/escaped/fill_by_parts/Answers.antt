@@ -1,11 +1,7 @@
 use mathlib.Core.Path.{sym, ◌∙◌}
 use Rattle.header.specs.Lead.{table_of}
 use Rattle.header.proofs.Tried.{tried-got, tried-no, tried-short, tried-far}
-use borrow.Author.Rules.{rules}
 use Rattle.header.proofs.escaped.fill_by_parts.Goals as goal
-
-pub enum_told-1 : goal.enum_told-1
-enum_told-1 c = search rules
 
 pub returns-in_default : goal.returns-in_default
 returns-in_default c =

@@ -1,10 +1,6 @@
 use Rattle.header.proofs.Told.{left-got, left-no}
 use Rattle.header.proofs.Tried.{part-is}
-use borrow.Author.Rules.{rules}
 use Rattle.header.proofs.escaped.read_escaped_into.Goals as goal
-
-pub enum_told-1 : goal.enum_told-1
-enum_told-1 c = search rules
 
 pub returns-in_default : goal.returns-in_default
 returns-in_default c =

@@ -1,10 +1,6 @@
 use mathlib.Core.Bool.{and-true, and-false, or-false}
 use Rattle.header.specs.Kinds.{kind_of}
-use borrow.Author.Rules.{rules}
 use Rattle.header.proofs.kinds.kind_of.Goals as goal
-
-pub enum_told-1 : goal.enum_told-1
-enum_told-1 c = search rules
 
 pub returns-in-Mvc : goal.returns-in-Mvc
 unfolding kind_of

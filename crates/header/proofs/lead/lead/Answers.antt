@@ -9,11 +9,7 @@ use Rattle.fmt.specs.Leaves.{ue}
 use Rattle.syntax.specs.SliceHeader.{lead, slice_type}
 use Rattle.header.specs.Lead.{table_of}
 use Rattle.header.proofs.Sets.{id-refused, no-picture, no-sequence, sets-there, picture-is, width_is, sequence-is}
-use borrow.Author.Rules.{rules}
 use Rattle.header.proofs.lead.lead.Goals as goal
-
-pub enum_told-1 : goal.enum_told-1
-enum_told-1 c = search rules
 
 pub returns-in_default : goal.returns-in_default
 unfolding lead seq ue

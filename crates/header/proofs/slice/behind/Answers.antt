@@ -1,4 +1,3 @@
-use borrow.Author.Rules.{rules}
 use mathlib.Core.Path.{refl, sym, ◌∙◌}
 use Rattle.bits.specs.Bits.{bits_of}
 use Rattle.header.specs.Short.{HeaderWords}
@@ -9,9 +8,6 @@ use Rattle.weights.proofs.AtMost.{at-most-32}
 use Rattle.weights.proofs.Left.{l0-covered, l1-covered}
 use Rattle.header.proofs.Kept.{kept-lists, kept-weights, kept-marks}
 use Rattle.header.proofs.slice.behind.Goals as goal
-
-pub enum_told-1 : goal.enum_told-1
-enum_told-1 c = search rules
 
 pub returns-in_default : goal.returns-in_default
 unfolding EachFront

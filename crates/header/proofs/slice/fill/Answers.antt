@@ -1,4 +1,3 @@
-use borrow.Author.Rules.{rules}
 use mathlib.Core.Path.{refl, sym, ap, ◌∙◌}
 use Rattle.bits.specs.Bits.{bits_of}
 use Rattle.header.specs.Lead.{as_lead, table_of}
@@ -6,9 +5,6 @@ use Rattle.header.proofs.Told.{front-got, front-refused, filled-no, filled-as, f
 use Rattle.header.proofs.Parts.{lead-no, front-no, front_read, front-in}
 use Rattle.header.proofs.Kept.{kept-front, each-front, kept-behind}
 use Rattle.header.proofs.slice.fill.Goals as goal
-
-pub enum_told-1 : goal.enum_told-1
-enum_told-1 c = search rules
 
 pub returns-in_default : goal.returns-in_default
 returns-in_default c =

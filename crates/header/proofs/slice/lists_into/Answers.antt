@@ -1,4 +1,3 @@
-use borrow.Author.Rules.{rules}
 use mathlib.Core.Path.{sym, ap, ◌∙◌}
 use Rattle.fields.specs.Steps.{as_flag}
 use Rattle.header.specs.declared.slice.Lists.{Lists}
@@ -8,9 +7,6 @@ use Rattle.header.proofs.Told.{told-lists-no, told-lists}
 use Rattle.header.proofs.Lists.{first-no, l0-no, second-no, l1-no, both_read, lists-same}
 use Rattle.header.proofs.Kept.{untouched, l0-covered, l1-covered}
 use Rattle.header.proofs.slice.lists_into.Goals as goal
-
-pub enum_told-1 : goal.enum_told-1
-enum_told-1 c = search rules
 
 pub returns-in_default : goal.returns-in_default
 returns-in_default c =

@@ -1,4 +1,3 @@
-use borrow.Author.Rules.{rules}
 use mathlib.Core.Path.{sym, ap, ◌∙◌}
 use Rattle.header.specs.Stages.{as_marking}
 use Rattle.header.specs.declared.slice.Marks.{Marks}
@@ -8,9 +7,6 @@ use Rattle.header.proofs.Told.{told-marks-no, told-marks}
 use Rattle.header.proofs.Lists.{flags-no, marking-no, marking-read, marks-same}
 use Rattle.header.proofs.Kept.{untouched, marking-covered}
 use Rattle.header.proofs.slice.marks_into.Goals as goal
-
-pub enum_told-1 : goal.enum_told-1
-enum_told-1 c = search rules
 
 pub returns-in_default : goal.returns-in_default
 returns-in_default c =

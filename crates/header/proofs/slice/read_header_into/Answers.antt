@@ -1,9 +1,5 @@
-use borrow.Author.Rules.{rules}
 use Rattle.header.proofs.Told.{left-got, left-no}
 use Rattle.header.proofs.slice.read_header_into.Goals as goal
-
-pub enum_told-1 : goal.enum_told-1
-enum_told-1 c = search rules
 
 pub returns-in_default : goal.returns-in_default
 returns-in_default c =

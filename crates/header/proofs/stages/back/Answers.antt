@@ -1,12 +1,8 @@
-use borrow.Author.Rules.{rules}
 use mathlib.Core.Path.{refl}
 use Rattle.header.specs.Stages.{back_at}
 use Rattle.header.specs.Told.{BackTold}
 use Rattle.header.proofs.Parts.{back-laid, back-signed}
 use Rattle.header.proofs.stages.back.Goals as goal
-
-pub enum_told-1 : goal.enum_told-1
-enum_told-1 c = search rules
 
 pub returns-in_default : goal.returns-in_default
 unfolding back_at BackTold

@@ -1,10 +1,6 @@
-use borrow.Author.Rules.{rules}
 use Rattle.bits.specs.Bits.{bits_of}
 use Rattle.header.specs.Stages.{first_flag_at}
 use Rattle.header.proofs.stages.first_flag.Goals as goal
-
-pub enum_told-1 : goal.enum_told-1
-enum_told-1 c = search rules
 
 pub returns-in_default : goal.returns-in_default
 unfolding first_flag_at

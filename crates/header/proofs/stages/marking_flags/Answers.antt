@@ -1,9 +1,5 @@
-use borrow.Author.Rules.{rules}
 use Rattle.header.specs.Stages.{marking_flags_at}
 use Rattle.header.proofs.stages.marking_flags.Goals as goal
-
-pub enum_told-1 : goal.enum_told-1
-enum_told-1 c = search rules
 
 pub returns-in_default : goal.returns-in_default
 unfolding marking_flags_at

@@ -1,11 +1,7 @@
 use mathlib.Core.Path.{sym, ap, ◌∙◌}
 use Rattle.table.specs.declared.words.FoundPicture.{FoundPicture}
 use Rattle.syntax.specs.Context.{picture_in}
-use borrow.Author.Rules.{rules}
 use Rattle.size.proofs.most.default_counts.Goals as goal
-
-pub enum_told-1 : goal.enum_told-1
-enum_told-1 c = search rules
 
 pub returns-in-There : goal.returns-in-There
 returns-in-There c =

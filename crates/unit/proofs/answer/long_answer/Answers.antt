@@ -1,11 +1,7 @@
-use borrow.Author.Rules.{rules}
 use Rattle.unit.proofs.answer.long_answer.Goals as goal
 
 pub returns-in-Slice : goal.returns-in-Slice
 returns-in-Slice c = rw c.in-Slice.is
-
-pub returns-in-Prefix : goal.returns-in-Prefix
-returns-in-Prefix c = search rules
 
 pub returns-in-Sequence : goal.returns-in-Sequence
 returns-in-Sequence c = rw c.in-Sequence.is

@@ -1,9 +1,5 @@
 use Rattle.unit.specs.Begin.{prefix_kind}
-use borrow.Author.Rules.{rules}
 use Rattle.unit.proofs.begin.prefix_kind.Goals as goal
-
-pub enum_told-1 : goal.enum_told-1
-enum_told-1 c = search rules
 
 pub returns-in-Mvc : goal.returns-in-Mvc
 unfolding prefix_kind
