@@ -1,6 +1,5 @@
 use Rattle.record.specs.Record.{header_from}
 use Rattle.stacking.specs.Item.{header_item}
-use borrow.Author.Rules.{rules}
 use Rattle.stacking.proofs.item.header_item.Goals as goal
 
 pub returns-then-not-is_plain : goal.returns-then-not-is_plain

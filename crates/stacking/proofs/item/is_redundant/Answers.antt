@@ -1,4 +1,3 @@
-use borrow.Author.Rules.{rules}
 use Rattle.stacking.proofs.item.is_redundant.Goals as goal
 
 pub returns-then-m : goal.returns-then-m

@@ -1,4 +1,3 @@
-use borrow.Author.Rules.{rules}
 use Rattle.stacking.proofs.item.item_of.Goals as goal
 
 pub returns-in-Slice : goal.returns-in-Slice

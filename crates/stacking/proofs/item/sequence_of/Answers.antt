@@ -1,4 +1,3 @@
-use borrow.Author.Rules.{rules}
 use Rattle.stacking.proofs.item.sequence_of.Goals as goal
 
 pub returns-in-There : goal.returns-in-There
