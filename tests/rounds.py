@@ -4,8 +4,9 @@
 `rt ci` tries each round too, and tells one line of what it was refused by. So each is tried once more, in a copy of the crate and of those below it in a temporary folder,
 begun with what `rt check` of the crate itself keeps in its out/. A log is target/must-fail/CRATE/ROUND.log; one that was made of the same files is not made again.
 
-    tests/rounds.py [CRATE..]
+    tests/rounds.py [--jobs N] [CRATE..]
 """
+import argparse
 import concurrent.futures
 import hashlib
 import os
@@ -116,10 +117,16 @@ def tried(crate, edit, log, made):
 
 
 def main():
+    words = argparse.ArgumentParser(description=__doc__.splitlines()[0])
+    words.add_argument("--jobs", type=int, default=os.cpu_count(), help="so many checks side by side")
+    words.add_argument("crate", nargs="*", help="the rounds of these alone")
+    given = words.parse_args()
+    if lacking := set(given.crate) - set(LINES):
+        words.error(f"crates.txt does not list {', '.join(sorted(lacking))}")
     kit = subprocess.run(["rt", "version"], check=True, capture_output=True, text=True).stdout
     todo, count = {}, 0
     for crate in LINES:
-        if sys.argv[1:] and crate not in sys.argv[1:]:
+        if given.crate and crate not in given.crate:
             continue
         for edit in sorted((ROOT / "crates" / crate / "must-fail").glob("*.edit")):
             log, made = LOGS / crate / f"{edit.stem}.log", sum_of(crate, kit, edit)
@@ -127,7 +134,7 @@ def main():
             if not (log.exists() and log.with_suffix(".sum").exists() and log.with_suffix(".sum").read_text() == made):
                 todo.setdefault(crate, []).append((edit, log, made))
     faults = []
-    with concurrent.futures.ThreadPoolExecutor(os.cpu_count()) as pool:
+    with concurrent.futures.ThreadPoolExecutor(given.jobs) as pool:
         # a crate's own check first: those of the crates below stand before it
         checks = {pool.submit(proved, crate): crate for crate in todo}
         rounds = []
