@@ -1,7 +1,6 @@
 -- The steps of a listing, one after another from its start, write the listing; for either framing.
 use mathlib.Core.Path.{◌≡◌, refl, sym, ap, ap₂, ◌∙◌}
 use mathlib.Core.List.{List, [], ◌∷◌, ◌++◌, append-nil, append_assoc}
-use mathlib.Core.Logic.{inl, inr}
 use mathlib.Core.Bool.{Bool, true, false}
 use Prim.Native.Nat.{ℕ, zero, suc, ◌+◌, ◌-◌, ◌≤◌, ◌<◌}
 use native.Mathlib.Omega.{arith}
@@ -241,8 +240,8 @@ ends_there s h (suc f) from l = go (next_framed s from) refl (ends_there s h f)
     go : (k : Step) → next_framed s from ≡ k → ((m : ℕ) → length s ≤ m + f → end_by next_framed s f m ≡ end_of m (framed_at 0 m (drop m s)))
         → end_on next_framed s k from (end_by next_framed s f) ≡ end_of from (framed_at 0 from (drop from s))
     go (Step.Unit p n m) e ih = let w = went s from (omega arith) e in ih m (omega arith) ∙ sym (ap (end_of from) w.there)
-    go Step.End e ih = rw (stopped s from (omega arith) (sym e) (inl refl))
-    go (Step.Refused r) e ih = rw (stopped s from (omega arith) (sym e) (inr refl))
+    go Step.End e ih = rw (stopped s from (omega arith) (sym e) (λ p k m q. cc))
+    go (Step.Refused r) e ih = rw (stopped s from (omega arith) (sym e) (λ p k m q. cc))
 
 module _ (t : Table) (scratch s : List ℕ) where
   framed-enough : (f : ℕ) → length s ≤ f → steps framed_turn (suc f) s t start scratch ≡ framed_listing t scratch s

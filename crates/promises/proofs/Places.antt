@@ -188,7 +188,7 @@ picked false true [] f (e ∷ es) fs h g = let z : ◌≡◌ {A = ℕ} 1 0 = cc 
 picked false true (p ∷ ps) f (e ∷ es) fs h g =
     let a : e.place ≡ p = cc in
     let b : places es ≡ ps = cc in
-    rw (g, a, f) (keeps ps es (rw b (own_of ps)))
+    rw (g, a, f) (keeps (places fs) es (rw (g, b) (own_of ps)))
 
 place-own : (es : List Exposure) → places (map own es) ≡ places es
 place-own [] = refl
