@@ -113,6 +113,7 @@ def tried(crate, edit, log, made):
     if status != 1 or "\nlogic=not-proved" not in said:
         return [f"{crate}/{edit.name}: the check ended with status {status}, and a refusal is 1: {log.relative_to(ROOT)}"]
     log.with_suffix(".sum").write_text(made)
+    print(f"rounds: {crate}/{edit.stem} tried", flush=True)
     return []
 
 

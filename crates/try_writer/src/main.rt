@@ -1,5 +1,5 @@
 // Writes records at every limit of the rules with the writer, and those that it must refuse; what is written becomes a unit, which is read back and compared word
-// by word. The records come from standard input, which tests/writings.py writes; what is printed is held to the file stdout beside src/, which it works out anew,
+// by word. The records come from standard input, which tests/try_writer.py writes; what is printed is held to the file stdout beside src/, which it works out anew,
 // bit by bit.
 #![tactic(auto)]
 
