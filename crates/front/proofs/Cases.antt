@@ -1,6 +1,6 @@
 -- The cases of reading a unit without its body, for any table; and that it answers as reading the unit does, where scratch is long enough for that.
 use Prim.Native.Nat.{ℕ}
-use mathlib.Core.Path.{◌≡◌, refl, ap}
+use mathlib.Core.Path.{◌≡◌, ap}
 use mathlib.Core.List.{List}
 use mathlib.Core.Bool.{true, false}
 use native.Mathlib.Omega.{arith}

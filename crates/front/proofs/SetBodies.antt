@@ -1,11 +1,10 @@
 -- A parameter set read from its unit: a sequence set from a part of bounded length, a picture set's end from where its ids end.
 use Prim.Native.Nat.{ℕ, ◌+◌, ◌*◌, ◌/◌, ◌%◌, ◌≤◌}
-use mathlib.Core.Path.{◌≡◌, refl, sym, ap, ◌∙◌}
+use mathlib.Core.Path.{◌≡◌, sym, ap, ◌∙◌}
 use mathlib.Core.List.{List, []}
 use native.Mathlib.Omega.{arith}
 use lib.ListN.{length, drop, length-drop}
-use Rattle.bits.specs.Refusals.{Res, got, no, limit}
-use Rattle.bits.specs.declared.refusals.Refusal.{Refusal}
+use Rattle.bits.specs.Refusals.{got, limit}
 use Rattle.bits.specs.declared.read.Cursor.{Cursor}
 use Rattle.bits.specs.Bits.{Bits, bytes_bits, bits_of}
 use Rattle.bits.proofs.Slices.{length-bytes}
@@ -16,7 +15,6 @@ use Rattle.escape.specs.Body.{body}
 use Rattle.escape.proofs.Bodies.{part_length}
 use Rattle.fields.specs.declared.step.End.{End}
 use Rattle.fields.specs.Steps.{as_end}
-use Rattle.parameter_sets.specs.declared.groups.Groups.{Groups}
 use Rattle.parameter_sets.specs.declared.picture.PictureStart.{PictureStart}
 use Rattle.parameter_sets.specs.declared.picture.PictureSetStep.{PictureSetStep}
 use Rattle.parameter_sets.specs.SequenceSet.{sequence_set}

@@ -2,7 +2,6 @@ use mathlib.Core.Path.{sym}
 use lib.Seq.{length-take-le}
 use Rattle.cut.proofs.Tails.{tail-held, tail-bits}
 use Rattle.front.proofs.SetBodies.{first-start}
-use borrow.Author.Rules.{rules}
 use Rattle.front.proofs.sets.before_ids.Goals as goal
 
 pub slice_bounds-local-end : goal.slice_bounds-local-end

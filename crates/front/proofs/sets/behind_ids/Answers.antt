@@ -2,9 +2,8 @@ use mathlib.Core.Path.{sym, ◌∙◌}
 use Prim.Native.Nat.{◌/◌}
 use native.Mathlib.Omega.{arith}
 use lib.Seq.{length-take-le}
-use Rattle.cut.proofs.Tails.{tail-held, tail-bits}
+use Rattle.cut.proofs.Tails.{tail-held}
 use Rattle.front.proofs.SetBodies.{bits-few, rest-place, rest-moved, rest_read}
-use borrow.Author.Rules.{rules}
 use Rattle.front.proofs.sets.behind_ids.Goals as goal
 
 pub slice_bounds-local-end : goal.slice_bounds-local-end

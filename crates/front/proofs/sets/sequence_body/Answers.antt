@@ -2,7 +2,6 @@ use mathlib.Core.Path.{sym}
 use lib.Seq.{length-take-le}
 use Rattle.cut.proofs.Firsts.{far-held, far-bits}
 use Rattle.front.proofs.SetBodies.{far-sequence}
-use borrow.Author.Rules.{rules}
 use Rattle.front.proofs.sets.sequence_body.Goals as goal
 
 pub slice_bounds-local-end : goal.slice_bounds-local-end
