@@ -1,12 +1,12 @@
 -- What the search of the walk sees beside a unit: how far no 00 00 03 begins.
-use mathlib.Core.Path.{◌≡◌, refl, sym, ap, ◌∙◌}
+use mathlib.Core.Path.{◌≡◌, sym, ap, ◌∙◌}
 use mathlib.Core.List.{List}
 use mathlib.Core.Bool.{false≢true}
 use Prim.Native.Nat.{ℕ, ◌+◌, ◌-◌, ◌≤◌, ◌<◌}
 use native.Mathlib.Omega.{arith}
 use lib.ListN.{length, get_or, take, drop, length-drop, length-take}
 use lib.Seq.{get_or-take}
-use Rattle.scan.specs.Scan.{hit, upto}
+use Rattle.scan.specs.Scan.{upto}
 use Rattle.scan.proofs.Hits.{upto_le, upto_before}
 use Rattle.scan.proofs.Clears.{hit-wider}
 use Rattle.escape.proofs.Runs.{Esc, NoEsc, esc-room, esc-hit}

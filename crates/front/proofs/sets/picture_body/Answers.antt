@@ -5,11 +5,7 @@ use Rattle.escape.proofs.Bodies.{part_length}
 use Rattle.parameter_sets.specs.PictureSteps.{as_picture_start}
 use Rattle.parameter_sets.proofs.PictureParts.{picture-parts}
 use Rattle.front.proofs.SetBodies.{ids-passed, ids-within}
-use borrow.Author.Rules.{rules}
 use Rattle.front.proofs.sets.picture_body.Goals as goal
-
-pub enum_told-1 : goal.enum_told-1
-enum_told-1 c = search rules
 
 pub returns-in_default : goal.returns-in_default
 unfolding next

@@ -3,7 +3,6 @@ use mathlib.Core.List.{[]}
 use Rattle.header.specs.Lead.{table_of}
 use Rattle.unit.proofs.Held.{refused-into}
 use Rattle.front.proofs.Units.{front-given, front-refused}
-use borrow.Author.Rules.{rules}
 use Rattle.walk.proofs.headers.read_headers.Goals as goal
 
 pub returns-in-Got : goal.returns-in-Got

@@ -4,7 +4,6 @@ use Prim.Native.Nat.{◌+◌}
 use lib.ListN.{drop}
 use Rattle.walk.proofs.Hits.{upto-hit, upto-miss}
 use Rattle.walk.proofs.Scans.{same-hit, sought}
-use borrow.Author.Rules.{rules}
 use Rattle.walk.proofs.search.seek_start.Goals as goal
 
 pub returns-then-s-from-lt4 : goal.returns-then-s-from-lt4

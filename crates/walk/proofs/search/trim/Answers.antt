@@ -1,9 +1,6 @@
-use borrow.Author.Rules.{rules}
 use native.Mathlib.Omega.{arith}
 use mathlib.Core.Path.{◌≡◌, sym, ◌∙◌}
-use Prim.Native.Nat.{◌-◌, ◌≤◌}
-use lib.ListN.{length, drop, take}
-use Rattle.walk.specs.Walk.{kept}
+use Prim.Native.Nat.{◌-◌}
 use Rattle.walk.proofs.Trims.{trim-on, trim-stop, trim_start}
 use Rattle.walk.proofs.search.trim.Goals as goal
 

@@ -1,10 +1,7 @@
-use borrow.Author.Rules.{rules}
-use native.Mathlib.Omega.{arith}
-use mathlib.Core.Path.{◌≡◌, sym, ◌∙◌}
+use mathlib.Core.Path.{◌≡◌}
 use Prim.Native.Nat.{◌-◌, ◌≤◌}
 use lib.ListN.{length, drop, take}
 use Rattle.walk.specs.Walk.{kept}
-use Rattle.walk.proofs.Trims.{trim-on, trim-stop, trim_start}
 use Rattle.walk.proofs.search.trim.Given as goal
 
 abbrev pub invariant-loop-e : goal.invariant-loop-e

@@ -1,5 +1,3 @@
-use borrow.Author.Rules.{rules}
-use native.Mathlib.Omega.{arith}
 use Rattle.walk.proofs.Nexts.{marked, open-ended}
 use Rattle.walk.proofs.search.unit_to.Goals as goal
 

@@ -1,5 +1,4 @@
 use Rattle.walk.proofs.Kept.{long-short}
-use borrow.Author.Rules.{rules}
 use Rattle.walk.proofs.turn.body_in_turn.Goals as goal
 
 pub returns : goal.returns

@@ -1,19 +1,6 @@
 use mathlib.Core.Path.{ap₂}
-use borrow.Author.Rules.{rules}
 use Rattle.header.specs.Lead.{table_of}
 use Rattle.walk.proofs.turn.keep_set.Goals as goal
-
-pub enum_told-1 : goal.enum_told-1
-enum_told-1 c = search rules
-
-pub enum_told-in-Prefix : goal.enum_told-in-Prefix
-enum_told-in-Prefix c = search rules
-
-pub enum_told-in-Other : goal.enum_told-in-Other
-enum_told-in-Other c = search rules
-
-pub enum_told-in-Refused : goal.enum_told-in-Refused
-enum_told-in-Refused c = search rules
 
 pub returns-in-Sequence : goal.returns-in-Sequence
 returns-in-Sequence c = rw c.in-Sequence.is (ap₂ table_of c.put_sequence_in.ensures.1.0 c.put_sequence_in.ensures.1.1)

@@ -2,7 +2,6 @@ use mathlib.Core.Path.{sym, ◌∙◌}
 use Rattle.header.specs.Lead.{table_of}
 use Rattle.unit.proofs.Held.{refused-into}
 use Rattle.unit.proofs.Known.{known-given, known-refused}
-use borrow.Author.Rules.{rules}
 use Rattle.walk.proofs.turn.read_unit.Goals as goal
 
 pub returns-in-Got : goal.returns-in-Got

@@ -1,13 +1,9 @@
 use mathlib.Core.Path.{sym, ◌∙◌}
 use Rattle.walk.proofs.Steps.{step-over, step-found}
-use borrow.Author.Rules.{rules}
 use Rattle.walk.proofs.walk.next_step.Goals as goal
 
 pub returns-then-recording-gt-LIMIT : goal.returns-then-recording-gt-LIMIT
 returns-then-recording-gt-LIMIT c = rw c.refuse.ensures (step-over _ _ c.if-recording-gt-LIMIT.true)
-
-pub enum_told-1 : goal.enum_told-1
-enum_told-1 c = search rules
 
 pub returns-in-At : goal.returns-in-At
 returns-in-At c = step-found _ _ c.if-recording-gt-LIMIT.false (sym c.next_unit.ensures ∙ c.in-At.is)
