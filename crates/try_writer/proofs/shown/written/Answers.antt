@@ -5,9 +5,3 @@ use Rattle.try_writer.proofs.shown.written.Goals as goal
 
 pub slice_bounds-write_words_in-end-then-room-d : goal.slice_bounds-write_words_in-end-then-room-d
 slice_bounds-write_words_in-end-then-room-d c = sym (length-take-le _ _ (search rules))
-
-pub returns-then-room-d : goal.returns-then-room-d
-returns-then-room-d c = search rules
-
-pub returns : goal.returns
-returns c = search rules

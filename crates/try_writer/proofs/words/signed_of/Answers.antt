@@ -6,11 +6,7 @@ use lib.IntN.{pos, neg_ℤ, ◌-ℤ◌, +ℤ_idl}
 use mir.Syntax.{w32}
 use mir.Val.{SFits, to_z}
 use mir.Facts.{to_z_pos}
-use borrow.Author.Rules.{rules}
 use Rattle.try_writer.proofs.words.signed_of.Goals as goal
-
-pub returns-then-size-eq2147483648 : goal.returns-then-size-eq2147483648
-returns-then-size-eq2147483648 c = search rules
 
 -- the machine's 0 - n is -n, which fits
 neg-fits : (n : ℕ) → n < 2 ^ 31 → SFits w32 (neg_ℤ (pos n))
@@ -24,9 +20,3 @@ pub overflow_sub-result : goal.overflow_sub-result
 overflow_sub-result c =
     let h : c.args.size % 2147483648 < 2 ^ 31 = omega arith in
     rw (negated (c.args.size % 2147483648) h) (neg-fits _ h)
-
-pub returns-then-negative : goal.returns-then-negative
-returns-then-negative c = search rules
-
-pub returns-else-negative : goal.returns-else-negative
-returns-else-negative c = search rules
