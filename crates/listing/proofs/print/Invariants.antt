@@ -1,11 +1,4 @@
-use borrow.Author.Rules.{rules}
-use mathlib.Core.Path.{◌≡◌, refl, sym, ap, ◌∙◌}
-use native.Mathlib.Omega.{arith}
-use lib.Seq.{length-take-le}
-use Rattle.table.proofs.Tests.{held}
-use Rattle.lines.proofs.Texts.{same_line}
-use Rattle.list_steps.specs.declared.step.State.{State}
-use Rattle.list_steps.proofs.Turns.{goes_on}
+use mathlib.Core.Path.{◌≡◌}
 use Prim.Native.Nat.{◌≤◌, ◌-◌}
 use lib.ListN.{length}
 use Rattle.listing.proofs.print.Given as goal

@@ -1,4 +1,3 @@
-use borrow.Author.Rules.{rules}
 use Rattle.syntax.specs.Sample.{sample_table}
 use Rattle.list_steps.proofs.sample.sample_table.Goals as goal
 

@@ -1,4 +1,3 @@
-use borrow.Author.Rules.{rules}
 use Rattle.list_steps.proofs.step.counted.Goals as goal
 
 pub returns-then-refused : goal.returns-then-refused

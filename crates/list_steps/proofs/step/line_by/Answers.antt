@@ -1,5 +1,4 @@
 use mathlib.Core.Path.{sym, ◌∙◌}
-use borrow.Author.Rules.{rules}
 use native.Mathlib.Omega.{arith}
 use lib.ListN.{length}
 use Rattle.header.specs.Lead.{table_of}
@@ -18,9 +17,6 @@ overflow_add-end c =
 
 pub slice_bounds-unit-end : goal.slice_bounds-unit-end
 slice_bounds-unit-end c = let a = c.args in inside (next_by a.by_length) (table_of a.sequences.now a.pictures.now) a.recording.now a.state a.scratch.now (omega arith) (by-ahead a.by_length a.recording.now (omega arith)) c.walk_on-w.ensures c.in-Unit.is
-
-pub enum_told-1 : goal.enum_told-1
-enum_told-1 c = search rules
 
 pub returns-in-Unit : goal.returns-in-Unit
 returns-in-Unit c =

@@ -1,4 +1,3 @@
-use borrow.Author.Rules.{rules}
 use Rattle.list_steps.specs.Listing.{turn}
 use Rattle.list_steps.proofs.step.list_step.Goals as goal
 

@@ -1,4 +1,3 @@
-use borrow.Author.Rules.{rules}
 use Rattle.walk.specs.Walked.{walked}
 use Rattle.framed.specs.Walked.{walked_framed}
 use Rattle.list_steps.proofs.step.walk_by.Goals as goal

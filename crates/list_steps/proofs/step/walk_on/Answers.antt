@@ -1,5 +1,4 @@
 use mathlib.Core.Path.{ap}
-use borrow.Author.Rules.{rules}
 use Rattle.unit.specs.Into.{Lent}
 use Rattle.list_steps.proofs.step.walk_on.Goals as goal
 
