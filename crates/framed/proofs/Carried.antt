@@ -16,7 +16,6 @@ use Rattle.walk.specs.Walk.{upto, kept}
 use Rattle.walk.proofs.Hits.{upto_le}
 use Rattle.walk.proofs.Scans.{sought}
 use Rattle.walk.proofs.Trims.{kept-le, trim-on, trim-stop}
-use Rattle.scan.specs.Scan as scan
 use Rattle.scan.specs.Clear.{Spot, Clear}
 use Rattle.scan.proofs.Clears.{clear-part, near-low}
 use Rattle.scan.proofs.Hits.{upto-short}

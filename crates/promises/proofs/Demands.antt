@@ -20,7 +20,7 @@ use Rattle.table.specs.Sets.{sequence_fits, picture_fits}
 use Rattle.table.specs.Tables.{sequence_put, widths_after, picture_put, put_sequence, put_picture}
 use Rattle.syntax.specs.declared.context.UnitKind.{UnitKind}
 use Rattle.syntax.specs.declared.record.SliceHeader.{SliceHeader}
-use Rattle.syntax.specs.SliceHeader.{header, any_set, read_header}
+use Rattle.syntax.specs.SliceHeader.{any_set, read_header}
 use Rattle.syntax.proofs.Header as syntax
 use Rattle.syntax.specs.Absent.{no_prefix}
 use Rattle.unit.specs.declared.answer.UnitAnswer.{UnitAnswer}

@@ -1,9 +1,7 @@
-use borrow.Author.Rules.{rules}
 use mathlib.Core.Bool.{false≢true}
 use native.Mathlib.Omega.{arith}
-use Prim.Native.Nat.{◌+◌, ◌-◌, ◌≤◌}
+use Prim.Native.Nat.{◌+◌, ◌-◌}
 use lib.ListN.{length}
-use Rattle.scan.specs.Clear.{Clear}
 use Rattle.scan.proofs.Clears.{clear_none, clear-join, clear-part}
 use Rattle.framed.proofs.Carried.{no-pair}
 use Rattle.framed.proofs.carry.has_no_pair.Goals as goal

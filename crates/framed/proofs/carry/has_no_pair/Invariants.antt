@@ -1,11 +1,5 @@
-use borrow.Author.Rules.{rules}
-use mathlib.Core.Bool.{false≢true}
-use native.Mathlib.Omega.{arith}
-use Prim.Native.Nat.{◌+◌, ◌-◌, ◌≤◌}
-use lib.ListN.{length}
+use Prim.Native.Nat.{◌-◌, ◌≤◌}
 use Rattle.scan.specs.Clear.{Clear}
-use Rattle.scan.proofs.Clears.{clear_none, clear-join, clear-part}
-use Rattle.framed.proofs.Carried.{no-pair}
 use Rattle.framed.proofs.carry.has_no_pair.Given as goal
 
 abbrev pub invariant-loop-i : goal.invariant-loop-i

@@ -4,8 +4,7 @@ use mathlib.Core.Logic.{◌⊎◌, inl, inr}
 use lib.Bits.{bit_or}
 use lib.ListN.{get_or}
 use native.Mathlib.Omega.{arith}
-use Prim.Native.Nat.{◌+◌, ◌-◌, ◌<◌, ◌≤◌}
-use Rattle.scan.specs.Clear.{Clear}
+use Prim.Native.Nat.{◌+◌, ◌<◌, ◌≤◌}
 use Rattle.scan.proofs.Clears.{clear_none, clear_step}
 use Rattle.framed.proofs.Carried.{lower_of, both_zero}
 use Rattle.framed.proofs.carry.is_apart.Goals as goal

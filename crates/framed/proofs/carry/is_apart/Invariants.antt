@@ -1,11 +1,5 @@
-use borrow.Author.Rules.{rules}
-use borrow.Author.Tests.{ltb-true}
-use mathlib.Core.Path.{◌≡◌}
-use native.Mathlib.Omega.{arith}
 use Prim.Native.Nat.{◌+◌, ◌-◌, ◌<◌, ◌≤◌}
 use Rattle.scan.specs.Clear.{Clear}
-use Rattle.scan.proofs.Clears.{clear_none, clear_step}
-use Rattle.framed.proofs.Carried.{lower_of, both_zero}
 use Rattle.framed.proofs.carry.is_apart.Given as goal
 
 abbrev pub invariant-loop-k : goal.invariant-loop-k

@@ -1,4 +1,3 @@
-use borrow.Author.Rules.{rules}
 use native.Mathlib.Omega.{arith}
 use Rattle.walk.proofs.Scans.{sought}
 use Rattle.framed.proofs.Carried.{empty, zero-last, other_last, none_in}

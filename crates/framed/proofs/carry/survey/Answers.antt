@@ -1,8 +1,7 @@
-use mathlib.Core.Path.{◌≡◌, refl, sym, ap, ◌∙◌}
-use Prim.Native.Nat.{◌≤◌, ◌-◌}
+use mathlib.Core.Path.{refl, sym, ap, ◌∙◌}
 use native.Mathlib.Omega.{arith}
-use lib.ListN.{length, drop}
-use Rattle.framed.specs.Framed.{framed_at, framed_units, end_of}
+use lib.ListN.{drop}
+use Rattle.framed.specs.Framed.{framed_at, end_of}
 use Rattle.framed.specs.Convert.{first_uncarried}
 use Rattle.framed.proofs.Carried.{is-on, is-first}
 use Rattle.framed.proofs.Steps.{went, stopped}

@@ -1,12 +1,8 @@
-use borrow.Author.Rules.{rules}
-use mathlib.Core.Path.{◌≡◌, refl, sym, ap, ◌∙◌}
+use mathlib.Core.Path.{◌≡◌}
 use Prim.Native.Nat.{◌≤◌, ◌-◌}
-use native.Mathlib.Omega.{arith}
 use lib.ListN.{length, drop}
 use Rattle.framed.specs.Framed.{framed_at, framed_units, end_of}
 use Rattle.framed.specs.Convert.{first_uncarried}
-use Rattle.framed.proofs.Carried.{is-on, is-first}
-use Rattle.framed.proofs.Steps.{Went, went, stopped}
 use Rattle.framed.proofs.carry.survey.Given as goal
 
 abbrev pub invariant-loop-place : goal.invariant-loop-place

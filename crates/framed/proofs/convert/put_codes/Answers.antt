@@ -1,11 +1,10 @@
 use mathlib.Core.Path.{◌≡◌, refl, sym, ◌∙◌}
-use Prim.Native.Nat.{◌≤◌, ◌-◌}
+use Prim.Native.Nat.{◌-◌}
 use native.Mathlib.Omega.{arith}
-use lib.ListN.{length, take, drop}
-use Rattle.framed.specs.Framed.{framed_at, framed_units}
-use Rattle.framed.specs.Convert.{start_code, joined, bytes_of}
+use lib.ListN.{take, drop}
+use Rattle.framed.specs.Convert.{start_code}
 use Rattle.framed.proofs.Steps.{went, stopped}
-use Rattle.framed.proofs.Fills.{Filled, filled_none, filled-all}
+use Rattle.framed.proofs.Fills.{filled_none, filled-all}
 use Rattle.framed.proofs.Joins.{unit-room, unit-put}
 use Rattle.framed.proofs.convert.put_codes.Goals as goal
 

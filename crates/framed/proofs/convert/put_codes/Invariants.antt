@@ -1,13 +1,8 @@
-use borrow.Author.Rules.{rules}
-use mathlib.Core.Path.{◌≡◌, refl, sym, ◌∙◌}
 use Prim.Native.Nat.{◌≤◌, ◌-◌}
-use native.Mathlib.Omega.{arith}
-use lib.ListN.{length, take, drop}
+use lib.ListN.{length, drop}
 use Rattle.framed.specs.Framed.{framed_at, framed_units}
 use Rattle.framed.specs.Convert.{start_code, joined, bytes_of}
-use Rattle.framed.proofs.Steps.{went, stopped}
-use Rattle.framed.proofs.Fills.{Filled, filled_none, filled-all}
-use Rattle.framed.proofs.Joins.{unit-room, unit-put}
+use Rattle.framed.proofs.Fills.{Filled}
 use Rattle.framed.proofs.convert.put_codes.Given as goal
 
 abbrev pub invariant-loop-place : goal.invariant-loop-place

@@ -1,11 +1,10 @@
 use mathlib.Core.Path.{◌≡◌, sym, ◌∙◌}
-use Prim.Native.Nat.{◌≤◌, ◌-◌, ◌+◌}
+use Prim.Native.Nat.{◌-◌, ◌+◌}
 use native.Mathlib.Omega.{arith}
-use lib.ListN.{length, take, drop}
-use Rattle.walk.specs.Units.{units_at, units}
+use lib.ListN.{take, drop}
 use Rattle.walk.proofs.Chain.{went, ended}
-use Rattle.framed.specs.Convert.{length_bytes, joined, bytes_of}
-use Rattle.framed.proofs.Fills.{Filled, filled_none, filled-all}
+use Rattle.framed.specs.Convert.{length_bytes}
+use Rattle.framed.proofs.Fills.{filled_none, filled-all}
 use Rattle.framed.proofs.Joins.{unit-room, unit-put, length-put}
 use Rattle.framed.proofs.convert.put_lengths.Goals as goal
 

@@ -1,8 +1,7 @@
 use mathlib.Core.Path.{◌≡◌, sym, ◌∙◌}
-use Prim.Native.Nat.{◌≤◌, ◌-◌, ◌+◌, ◌*◌}
 use native.Mathlib.Omega.{arith}
 use lib.ListN.{length, drop}
-use Rattle.walk.specs.Units.{units_at, units}
+use Rattle.walk.specs.Units.{units_at}
 use Rattle.walk.proofs.Chain.{went, ended}
 use Rattle.framed.specs.Convert.{length_bytes, joined, bytes_of}
 use Rattle.framed.proofs.Joins.{size-on, place-behind, part_length}

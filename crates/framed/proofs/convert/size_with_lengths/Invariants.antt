@@ -1,12 +1,8 @@
-use borrow.Author.Rules.{rules}
-use mathlib.Core.Path.{◌≡◌, sym, ◌∙◌}
+use mathlib.Core.Path.{◌≡◌}
 use Prim.Native.Nat.{◌≤◌, ◌-◌, ◌+◌, ◌*◌}
-use native.Mathlib.Omega.{arith}
 use lib.ListN.{length, drop}
 use Rattle.walk.specs.Units.{units_at, units}
-use Rattle.walk.proofs.Chain.{went, ended}
 use Rattle.framed.specs.Convert.{length_bytes, joined, bytes_of}
-use Rattle.framed.proofs.Joins.{size-on, place-behind, part_length}
 use Rattle.framed.proofs.convert.size_with_lengths.Given as goal
 
 abbrev pub invariant-loop-length : goal.invariant-loop-length

@@ -4,7 +4,6 @@ use Prim.Native.Nat.{ℕ, ◌<◌}
 use mir.Facts.{to_z_pos}
 use mir.Syntax.{w64}
 use native.Mathlib.Omega.{arith}
-use borrow.Author.Rules.{rules}
 use Rattle.framed.specs.declared.convert.Converted.{Converted}
 use Rattle.framed.specs.Convert.{ConvertOut}
 use Rattle.framed.proofs.Cases.{lengths-over, lengths-large, lengths_short, lengths-done}

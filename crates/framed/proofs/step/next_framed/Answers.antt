@@ -1,4 +1,3 @@
-use borrow.Author.Rules.{rules}
 use Prim.Native.Nat.{◌<◌}
 use mir.Facts.{to_z_pos}
 use mir.Syntax.{w64}

@@ -1,8 +1,6 @@
-use mathlib.Core.Path.{◌≡◌, refl, sym, ap, ◌∙◌}
-use Prim.Native.Nat.{◌-◌}
+use mathlib.Core.Path.{refl, sym, ap, ◌∙◌}
 use native.Mathlib.Omega.{arith}
-use lib.ListN.{length, drop}
-use Rattle.framed.specs.Framed.{framed_at, end_of}
+use Rattle.framed.specs.Framed.{end_of}
 use Rattle.framed.proofs.Steps.{went, stopped}
 use Rattle.framed.proofs.step.units_end.Goals as goal
 

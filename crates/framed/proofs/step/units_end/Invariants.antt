@@ -1,10 +1,7 @@
-use borrow.Author.Rules.{rules}
-use mathlib.Core.Path.{◌≡◌, refl, sym, ap, ◌∙◌}
+use mathlib.Core.Path.{◌≡◌}
 use Prim.Native.Nat.{◌-◌}
-use native.Mathlib.Omega.{arith}
 use lib.ListN.{length, drop}
 use Rattle.framed.specs.Framed.{framed_at, end_of}
-use Rattle.framed.proofs.Steps.{went, stopped}
 use Rattle.framed.proofs.step.units_end.Given as goal
 
 abbrev pub invariant-loop-next : goal.invariant-loop-next
