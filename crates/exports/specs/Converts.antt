@@ -1,6 +1,5 @@
 -- What converting answers, as a plain struct.
 use Rattle.std.specs.Prelude.{pos}
-use Rattle.bits.specs.declared.refusals.Refusal.{Refusal}
 use Rattle.framed.specs.declared.convert.Converted.{Converted}
 use Rattle.exports.specs.declared.converts.ConvertedOut.{ConvertedOut}
 

@@ -1,7 +1,6 @@
 -- A unit's head, as a plain struct, and what such a struct says to a line.
 use Rattle.std.specs.Prelude.{pos, ◌==◌}
 use Rattle.bits.specs.Refusals.{pick, refusal}
-use Rattle.bits.specs.declared.refusals.Refusal.{Refusal}
 use Rattle.unit.specs.declared.head.HeadRead.{HeadRead}
 use Rattle.exports.specs.declared.heads.HeadOut.{HeadOut}
 

@@ -1,14 +1,11 @@
 -- What a unit starts with, as plain structs.
-use Rattle.std.specs.Prelude.{ℕ, Bool, true, false, pos}
-use Rattle.bits.specs.declared.refusals.Refusal.{Refusal}
+use Rattle.std.specs.Prelude.{ℕ, false, pos}
 use Rattle.nal.specs.declared.unit_type.UnitType.{UnitType}
 use Rattle.nal.specs.declared.unit_type.UnitTypeForId.{UnitTypeForId}
-use Rattle.nal.specs.declared.header.NalHeader.{NalHeader}
 use Rattle.nal.specs.declared.header.NalHeaderRead.{NalHeaderRead}
 use Rattle.nal.specs.declared.extension.NalHeaderSvcExtension.{NalHeaderSvcExtension}
 use Rattle.nal.specs.declared.extension.NalHeaderMvcExtension.{NalHeaderMvcExtension}
-use Rattle.nal.specs.UnitType.{id_of}
-use Rattle.nal.specs.Header.{nal_ref_idc, nal_unit_type}
+use Rattle.nal.specs.Header.{nal_ref_idc}
 use Rattle.nal.specs.Extension.{extension_from, is_svc}
 use Rattle.nal.specs.Extension.{non_idr_flag, mvc_priority_id, view_id, mvc_temporal_id, anchor_pic_flag, inter_view_flag}
 use Rattle.nal.specs.Extension.{idr_flag, svc_priority_id, no_inter_layer_pred_flag, dependency_id, quality_id, svc_temporal_id, use_ref_base_pic_flag, discardable_flag, output_flag}

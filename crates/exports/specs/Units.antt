@@ -1,6 +1,5 @@
 -- What reading a unit answers, as a plain struct.
 use Rattle.std.specs.Prelude.{false, pos}
-use Rattle.bits.specs.declared.refusals.Refusal.{Refusal}
 use Rattle.syntax.specs.Absent.{no_prefix}
 use Rattle.syntax.specs.Context.{no_sequence, no_picture}
 use Rattle.lists.specs.ListsLent.{prefix_short}

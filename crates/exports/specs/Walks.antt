@@ -1,6 +1,5 @@
 -- A step of the walk, as a plain struct.
 use Rattle.std.specs.Prelude.{pos}
-use Rattle.bits.specs.declared.refusals.Refusal.{Refusal}
 use Rattle.walk.specs.declared.walk.Step.{Step}
 use Rattle.walk.specs.Walked.{Walked}
 use Rattle.unit.specs.declared.into.ShortAnswer.{ShortAnswer}

@@ -1,6 +1,5 @@
 -- What writing a header answers, as a plain struct.
 use Rattle.std.specs.Prelude.{pos}
-use Rattle.bits.specs.declared.refusals.Refusal.{Refusal}
 use Rattle.writer.specs.declared.write.HeaderWrote.{HeaderWrote}
 use Rattle.exports.specs.declared.writes.WroteOut.{WroteOut}
 

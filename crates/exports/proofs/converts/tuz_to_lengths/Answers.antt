@@ -1,4 +1,3 @@
-use Rattle.std.proofs.Common.{rules}
 use Rattle.exports.proofs.converts.tuz_to_lengths.Goals as goal
 
 pub returns : goal.returns

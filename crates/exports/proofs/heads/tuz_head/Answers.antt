@@ -1,4 +1,4 @@
-use Rattle.std.proofs.Common.{ap, ◌∙◌, rules}
+use Rattle.std.proofs.Common.{ap, ◌∙◌}
 use Rattle.exports.specs.Heads.{head_out}
 use Rattle.exports.proofs.heads.tuz_head.Goals as goal
 

@@ -1,4 +1,4 @@
-use Rattle.std.proofs.Common.{ap, ◌∙◌, rules}
+use Rattle.std.proofs.Common.{ap, ◌∙◌}
 use Rattle.exports.specs.Walks.{came}
 use Rattle.exports.proofs.lengths.tuz_next_framed.Goals as goal
 

@@ -1,4 +1,4 @@
-use Rattle.std.proofs.Common.{to_z-of_z, rules, eq-eqb, ne_eqb}
+use Rattle.std.proofs.Common.{to_z-of_z, eq-eqb, ne_eqb}
 use Rattle.exports.specs.Listings.{heard}
 use Rattle.exports.proofs.listings.hear.Goals as goal
 

@@ -1,4 +1,3 @@
-use Rattle.std.proofs.Common.{rules}
 use Rattle.exports.proofs.listings.tuz_head_line.Goals as goal
 
 pub returns : goal.returns

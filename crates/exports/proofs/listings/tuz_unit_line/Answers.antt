@@ -1,4 +1,4 @@
-use Rattle.std.proofs.Common.{to_z-of_z, rules}
+use Rattle.std.proofs.Common.{to_z-of_z}
 use Rattle.exports.proofs.listings.tuz_unit_line.Goals as goal
 
 pub returns : goal.returns

@@ -1,4 +1,4 @@
-use Rattle.std.proofs.Common.{to_z-of_z, w64, SFits, rules}
+use Rattle.std.proofs.Common.{to_z-of_z, w64, SFits}
 use Rattle.exports.proofs.quants.tuz_final_qp.Goals as goal
 
 pub returns : goal.returns

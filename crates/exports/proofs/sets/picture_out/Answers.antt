@@ -1,9 +1,4 @@
 use Rattle.exports.specs.Sets.{picture_out}
-use Rattle.std.proofs.Common.{rules}
-use Rattle.exports.proofs.sets.picture_out.Reads as reads
-use Rattle.exports.proofs.sets.picture_out.Lts as lts
-use Rattle.exports.proofs.sets.no_picture.Reads as no-picture-reads
-use Rattle.table.proofs.words.picture_in.Reads as picture-in-reads
 use Rattle.exports.proofs.sets.picture_out.Goals as goal
 
 pub returns-in-There : goal.returns-in-There

@@ -1,4 +1,3 @@
-use Rattle.std.proofs.Common.{rules}
 use Rattle.exports.proofs.sets.put_sequence_out.Goals as goal
 
 pub returns : goal.returns

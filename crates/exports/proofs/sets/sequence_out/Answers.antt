@@ -1,9 +1,4 @@
 use Rattle.exports.specs.Sets.{sequence_out}
-use Rattle.std.proofs.Common.{rules}
-use Rattle.exports.proofs.sets.sequence_out.Reads as reads
-use Rattle.exports.proofs.sets.sequence_out.Lts as lts
-use Rattle.exports.proofs.sets.no_sequence.Reads as no-sequence-reads
-use Rattle.table.proofs.words.sequence_in.Reads as sequence-in-reads
 use Rattle.exports.proofs.sets.sequence_out.Goals as goal
 
 pub returns-in-There : goal.returns-in-There

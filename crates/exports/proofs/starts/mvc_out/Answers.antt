@@ -1,5 +1,4 @@
 use Rattle.exports.specs.Starts.{mvc_out}
-use Rattle.std.proofs.Common.{rules}
 use Rattle.exports.proofs.starts.mvc_out.Goals as goal
 
 pub returns : goal.returns

@@ -1,5 +1,4 @@
 use Rattle.exports.specs.Starts.{svc_out}
-use Rattle.std.proofs.Common.{rules}
 use Rattle.exports.proofs.starts.svc_out.Goals as goal
 
 pub returns : goal.returns

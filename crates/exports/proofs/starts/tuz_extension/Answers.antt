@@ -1,5 +1,4 @@
 use Rattle.exports.specs.Starts.{extension_out}
-use Rattle.std.proofs.Common.{rules}
 use Rattle.exports.proofs.starts.tuz_extension.Goals as goal
 
 pub returns : goal.returns

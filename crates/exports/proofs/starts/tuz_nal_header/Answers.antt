@@ -1,4 +1,4 @@
-use Rattle.std.proofs.Common.{ap, ◌∙◌, rules}
+use Rattle.std.proofs.Common.{ap, ◌∙◌}
 use Rattle.exports.specs.Starts.{header_out}
 use Rattle.exports.proofs.starts.tuz_nal_header.Goals as goal
 

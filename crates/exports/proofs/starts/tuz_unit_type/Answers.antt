@@ -1,4 +1,3 @@
-use Rattle.std.proofs.Common.{rules}
 use Rattle.exports.proofs.starts.tuz_unit_type.Goals as goal
 
 pub returns-in-Type : goal.returns-in-Type

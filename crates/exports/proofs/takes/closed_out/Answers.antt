@@ -1,5 +1,4 @@
 use Rattle.exports.specs.Takes.{closed_out}
-use Rattle.std.proofs.Common.{rules}
 use Rattle.exports.proofs.takes.closed_out.Goals as goal
 
 pub returns-in-Nothing : goal.returns-in-Nothing

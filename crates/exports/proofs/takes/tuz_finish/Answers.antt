@@ -1,4 +1,3 @@
-use Rattle.std.proofs.Common.{rules}
 use Rattle.exports.proofs.takes.tuz_finish.Goals as goal
 
 pub returns : goal.returns

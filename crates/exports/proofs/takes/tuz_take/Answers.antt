@@ -1,4 +1,4 @@
-use Rattle.std.proofs.Common.{ap, ◌∙◌, rules}
+use Rattle.std.proofs.Common.{ap, ◌∙◌}
 use Rattle.exports.specs.Takes.{closed_out, taken_out}
 use Rattle.exports.proofs.takes.tuz_take.Goals as goal
 

@@ -1,4 +1,4 @@
-use Rattle.std.proofs.Common.{ap, ◌∙◌, rules}
+use Rattle.std.proofs.Common.{ap, ◌∙◌}
 use Rattle.exports.specs.Units.{told, unit_out}
 use Rattle.exports.proofs.units.tuz_body.Goals as goal
 

@@ -1,4 +1,3 @@
-use Rattle.std.proofs.Common.{rules}
 use Rattle.exports.proofs.writes.tuz_write_header.Goals as goal
 
 pub returns : goal.returns
