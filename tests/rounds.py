@@ -8,6 +8,7 @@ begun with what `rt check` of the crate itself keeps in its out/. A log is targe
 """
 import argparse
 import concurrent.futures
+import contextlib
 import hashlib
 import os
 import pathlib
@@ -19,8 +20,8 @@ import tempfile
 ROOT = pathlib.Path(__file__).resolve().parent.parent
 LOGS = ROOT / "target/must-fail"
 PARTS = ("src", "specs", "proofs")
-# what a check proved; rt gives the files named so a second name for a crate's copy, and never writes into one
-KEPT, PROVED = "out/incremental", ".oantt"
+# what a check of a crate keeps, and what it builds of one below; as rt itself does, a copy has the files that no check writes into by a second name
+KEPT, PROVED, BUILT = "out/incremental", ".oantt", "out/rlib"
 
 
 def listed():
@@ -73,11 +74,16 @@ def apply(text, folder):
 
 def link(file, to):
     try:
-        if file.endswith(PROVED):
+        if BUILT in file or file.endswith(PROVED):
             return os.link(file, to)
     except OSError:
         pass
     return shutil.copy2(file, to)
+
+
+def copy(crate, part, root):
+    if (ROOT / "crates" / crate / part).is_dir():
+        shutil.copytree(ROOT / "crates" / crate / part, root / "crates" / crate / part, copy_function=link if part in (KEPT, BUILT) else shutil.copy2)
 
 
 def check(folder, *words):
@@ -91,22 +97,28 @@ def proved(crate):
     return [] if status == 0 else [f"{crate} is not proved, so its rounds show nothing:\n{said[-2000:]}"]
 
 
+@contextlib.contextmanager
+def room():
+    """A temporary folder. It has another name when it is removed: rt lends what it finds in one, and would take half of it."""
+    folder = pathlib.Path(tempfile.mkdtemp(prefix="round-"))
+    try:
+        yield folder
+    finally:
+        shutil.rmtree(folder.rename(f"{folder}.gone"), ignore_errors=True)
+
+
 def tried(crate, edit, log, made):
     """Makes the log of a round."""
-    with tempfile.TemporaryDirectory(prefix="round-") as room:
-        root = pathlib.Path(room)
+    with room() as root:
         below = with_below(crate)
         (root / "crates.txt").write_text("".join(LINES[name] + "\n" for name in below))
         for name in below:
-            for part in PARTS:
-                if (ROOT / "crates" / name / part).is_dir():
-                    shutil.copytree(ROOT / "crates" / name / part, root / "crates" / name / part)
+            for part in (*PARTS, KEPT if name == crate else BUILT):
+                copy(name, part, root)
         try:
             apply(edit.read_text(), root / "crates" / crate)
         except (OSError, ValueError) as fault:
             return [f"{crate}/{edit.name} cannot be applied: {fault}"]
-        if (ROOT / "crates" / crate / KEPT).is_dir():
-            shutil.copytree(ROOT / "crates" / crate / KEPT, root / "crates" / crate / KEPT, symlinks=True, copy_function=link)
         status, said = check(root / "crates" / crate, "--jobs", "1")
     log.parent.mkdir(parents=True, exist_ok=True)
     log.write_text(said)
