@@ -29,6 +29,8 @@ UNPROVED = re.compile(
     r"`search`: no proof of|`omega`: the goal does not follow|`grind` found no proof|the two (?:types|sides|indices) |expected type `"
     r"|`rw`: no (?:occurrence of|part of the goal )|give a proof of that as the last argument|the two values first differ|`simp`: no equation of the list"
 )
+# The same of two terms, in the two lines below the error's, which has the first of them.
+FALSE = re.compile(r"  ≟ `.*\n  does not hold ")
 
 
 def function_at(source, text):
@@ -67,11 +69,11 @@ class Log:
 
     def __init__(self, text):
         self.own, self.verdicts, self.left = {}, {}, set()
-        left = False
-        for line in text.splitlines():
+        left, lines = False, text.splitlines()
+        for at, line in enumerate(lines):
             if error := ERROR.match(line):
                 file, name, said = error.groups()
-                if UNPROVED.search(said):
+                if UNPROVED.search(said) or FALSE.match("\n".join(lines[at + 1 : at + 3])):
                     self.own.setdefault(file, set()).add(name)
             elif OPEN.match(line):
                 left = True
@@ -175,6 +177,7 @@ PASS = [
     (ROUND, error("returns", GOAL) + CALLS),
     (ROUND, error("help", GOAL) + depends("help") + NOT_PROVED),
     (ROUND, error("returns", "as printed, the two types first differ") + NOT_PROVED),
+    (ROUND, error("returns", "`x`") + "  ≟ `y`\n  does not hold (it turned out false)\n" + NOT_PROVED),
     (ROUND, error("returns", GOAL, "proofs/a/+f/Answers.antt") + NOT_PROVED),
     (ROUND, error("returns", GOAL, "proofs/a/f/Invariants.antt") + NOT_PROVED),
     (ROUND, error("returns-2", "`goal.returns-2`: module `f.Goals` has no `returns-2` that can be named from here") + left(NOT_PROVED)),
