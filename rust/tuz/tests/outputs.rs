@@ -18,6 +18,11 @@ fn folder(name: &str) -> PathBuf {
     path
 }
 
+/// Removes a folder with links in it: `rt` wants none in the repository.
+fn without_links(folder: &PathBuf) {
+    fs::remove_dir_all(folder).unwrap();
+}
+
 /// The command in a folder.
 fn at(folder: &PathBuf, line: &str) -> Output {
     let line = format!("\"$0\" {line}");
@@ -71,6 +76,7 @@ fn nothing_is_written_over_an_input() {
         "qp n.264 --sample -q --csv /dev/null --plot /dev/null",
     );
     assert_eq!((err(&done).as_str(), done.status.code()), ("", Some(0)));
+    without_links(&here);
 }
 
 /// A file takes its place when it is whole: by the links that lead to it, with the mode that it had.
@@ -96,6 +102,7 @@ fn a_file_takes_its_place() {
     let done = at(&here, "tear - --sample -o - --how cut --at 8");
     assert_eq!(done.stdout, CLIP[..8]);
     assert!(err(&done).ends_with("written standard output length=8\n"));
+    without_links(&here);
 }
 
 /// Every write is looked at, those that fit a buffer too; nothing of the file stays.
