@@ -1,7 +1,7 @@
 // Writing a slice header.
 ghost use Rattle.std.specs.Prelude.{◌≡◌};
 ghost use Rattle.header.specs.Lead.{table_of};
-ghost use Rattle.writer.specs.Write.{lent_words, write_words};
+ghost use Rattle.writer.specs.Write.{held_words, write_words};
 ghost use Rattle.exports.specs.Writes.{wrote_out};
 
 use writer::given::ExtensionGiven;
@@ -50,7 +50,7 @@ pub extern "C" fn tuz_write_header<'a>(
     w1: &[i32; 256],
     out: &mut [u8],
 ) -> WroteOut
-    ensures { (result ≡ wrote_out (write_words (table_of sequences.now pictures.now) first extension (lent_words numbers.now signed.now l0.now l1.now marking.now w0.now w1.now) out.old).answer) × (out.new ≡ (write_words (table_of sequences.now pictures.now) first extension (lent_words numbers.now signed.now l0.now l1.now marking.now w0.now w1.now) out.old).left) }
+    ensures { (result ≡ wrote_out (write_words (table_of sequences.now pictures.now) first extension (held_words numbers.now signed.now l0.now l1.now marking.now w0.now w1.now) out.old).answer) × (out.new ≡ (write_words (table_of sequences.now pictures.now) first extension (held_words numbers.now signed.now l0.now l1.now marking.now w0.now w1.now) out.old).left) }
 {
     wrote_out(write_words_in(
         sequences, pictures, first, extension, numbers, signed, l0, l1, marking, w0, w1, out,

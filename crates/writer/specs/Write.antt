@@ -41,8 +41,8 @@ why_sets (SetsFor.Refused r) = r
 -- ---- the header
 
 -- the words in arrays that are lent to be read
-abbrev pub lent_words : List ℕ → List ℤ → List ℕ → List ℕ → List ℕ → List ℤ → List ℤ → HeaderWords
-lent_words numbers signed l0 l1 marking w0 w1 = record { numbers = numbers; signed = signed; l0 = l0; l1 = l1; marking = marking; w0 = w0; w1 = w1 }
+abbrev pub held_words : List ℕ → List ℤ → List ℕ → List ℕ → List ℕ → List ℤ → List ℤ → HeaderWords
+held_words numbers signed l0 l1 marking w0 w1 = record { numbers = numbers; signed = signed; l0 = l0; l1 = l1; marking = marking; w0 = w0; w1 = w1 }
 
 -- the answer, and the buffer at exit
 pub record HeaderOut : Type 0 where

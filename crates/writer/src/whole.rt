@@ -4,7 +4,7 @@ ghost use Rattle.syntax.specs.SliceHeader.{of_header};
 ghost use Rattle.record.specs.Fields.{number_in};
 ghost use Rattle.record.specs.Record.{plain_numbers, header_from};
 ghost use Rattle.writer.specs.Places.{PutTo};
-ghost use Rattle.writer.specs.Write.{lent_words};
+ghost use Rattle.writer.specs.Write.{held_words};
 ghost use Rattle.writer.specs.Stages.{known_lead, back, middle, fields};
 
 use crate::counts::put_active_counts;
@@ -56,7 +56,7 @@ fn put_middle(
     w1: &[i32; 256],
 ) -> Cursor
     requires { plain_numbers numbers.now ≡ true }
-    ensures { PutTo (middle x (number_in numbers.now 1) n0 n1) (of_header (header_from (lent_words numbers.now signed.now l0.now l1.now marking.now w0.now w1.now))).1.1.1.1 d.old c.at d.new result }
+    ensures { PutTo (middle x (number_in numbers.now 1) n0 n1) (of_header (header_from (held_words numbers.now signed.now l0.now l1.now marking.now w0.now w1.now))).1.1.1.1 d.old c.at d.new result }
 {
     let slice_type = numbers[1];
     let c1 = put_modifications(d, c, x, slice_type, numbers, l0, l1);
@@ -81,7 +81,7 @@ pub(crate) fn put_header(
 ) -> Cursor
     requires num_ref_idx_l0_default_active_minus1_bound { (x.picture.num_ref_idx_l0_default_active_minus1 ≤ 31) × (x.picture.num_ref_idx_l1_default_active_minus1 ≤ 31) }
     requires plain { plain_numbers numbers.now ≡ true }
-    ensures { PutTo (fields x) (of_header (header_from (lent_words numbers.now signed.now l0.now l1.now marking.now w0.now w1.now))) d.old 0 d.new result }
+    ensures { PutTo (fields x) (of_header (header_from (held_words numbers.now signed.now l0.now l1.now marking.now w0.now w1.now))) d.old 0 d.new result }
 {
     let slice_type = numbers[1];
     let c1 = put_lead(d, numbers[0], slice_type, numbers[2]);

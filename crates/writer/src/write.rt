@@ -2,7 +2,7 @@
 ghost use Rattle.std.specs.Prelude.{true, ◌≡◌, ◌*◌, ◌≤◌, length};
 ghost use Rattle.header.specs.Lead.{table_of};
 ghost use Rattle.record.specs.Record.{plain_numbers, header_from};
-ghost use Rattle.writer.specs.Write.{lent_words, write_words};
+ghost use Rattle.writer.specs.Write.{held_words, write_words};
 ghost use Rattle.writer.specs.Stages.{fields_out, known_out, copied};
 
 use crate::given::{ExtensionGiven, KindGiven, kind_given, why_kind};
@@ -49,7 +49,7 @@ fn write_long(
     out: &mut [u8],
 ) -> HeaderWrote
     requires { ((x.picture.num_ref_idx_l0_default_active_minus1 ≤ 31) × (x.picture.num_ref_idx_l1_default_active_minus1 ≤ 31)) × (plain_numbers numbers.now ≡ true) }
-    ensures { (result ≡ (fields_out x (header_from (lent_words numbers.now signed.now l0.now l1.now marking.now w0.now w1.now)) out.old).answer) × (out.new ≡ (fields_out x (header_from (lent_words numbers.now signed.now l0.now l1.now marking.now w0.now w1.now)) out.old).left) }
+    ensures { (result ≡ (fields_out x (header_from (held_words numbers.now signed.now l0.now l1.now marking.now w0.now w1.now)) out.old).answer) × (out.new ≡ (fields_out x (header_from (held_words numbers.now signed.now l0.now l1.now marking.now w0.now w1.now)) out.old).left) }
 {
     let mut d = [0u8; 6144];
     let c = put_header(&mut d, x, numbers, signed, l0, l1, marking, w0, w1);
@@ -73,7 +73,7 @@ fn write_fields(
     out: &mut [u8],
 ) -> HeaderWrote
     requires { ((x.picture.num_ref_idx_l0_default_active_minus1 ≤ 31) × (x.picture.num_ref_idx_l1_default_active_minus1 ≤ 31)) × (plain_numbers numbers.now ≡ true) }
-    ensures { (result ≡ (fields_out x (header_from (lent_words numbers.now signed.now l0.now l1.now marking.now w0.now w1.now)) out.old).answer) × (out.new ≡ (fields_out x (header_from (lent_words numbers.now signed.now l0.now l1.now marking.now w0.now w1.now)) out.old).left) }
+    ensures { (result ≡ (fields_out x (header_from (held_words numbers.now signed.now l0.now l1.now marking.now w0.now w1.now)) out.old).answer) × (out.new ≡ (fields_out x (header_from (held_words numbers.now signed.now l0.now l1.now marking.now w0.now w1.now)) out.old).left) }
 {
     let mut d = [0u8; 256];
     let c = put_header(&mut d, x, numbers, signed, l0, l1, marking, w0, w1);
@@ -98,7 +98,7 @@ fn write_known(
     out: &mut [u8],
 ) -> HeaderWrote
     requires { (x.picture.num_ref_idx_l0_default_active_minus1 ≤ 31) × (x.picture.num_ref_idx_l1_default_active_minus1 ≤ 31) }
-    ensures { (result ≡ (known_out x (lent_words numbers.now signed.now l0.now l1.now marking.now w0.now w1.now) out.old).answer) × (out.new ≡ (known_out x (lent_words numbers.now signed.now l0.now l1.now marking.now w0.now w1.now) out.old).left) }
+    ensures { (result ≡ (known_out x (held_words numbers.now signed.now l0.now l1.now marking.now w0.now w1.now) out.old).answer) × (out.new ≡ (known_out x (held_words numbers.now signed.now l0.now l1.now marking.now w0.now w1.now) out.old).left) }
 {
     let same = numbers[3] == x.picture.seq_parameter_set_id;
     if !both(is_plain(numbers, w0, w1), same) {
@@ -123,7 +123,7 @@ pub fn write_words_in<'a>(
     w1: &[i32; 256],
     out: &mut [u8],
 ) -> HeaderWrote
-    ensures { (result ≡ (write_words (table_of sequences.now pictures.now) first extension (lent_words numbers.now signed.now l0.now l1.now marking.now w0.now w1.now) out.old).answer) × (out.new ≡ (write_words (table_of sequences.now pictures.now) first extension (lent_words numbers.now signed.now l0.now l1.now marking.now w0.now w1.now) out.old).left) }
+    ensures { (result ≡ (write_words (table_of sequences.now pictures.now) first extension (held_words numbers.now signed.now l0.now l1.now marking.now w0.now w1.now) out.old).answer) × (out.new ≡ (write_words (table_of sequences.now pictures.now) first extension (held_words numbers.now signed.now l0.now l1.now marking.now w0.now w1.now) out.old).left) }
 {
     let a1 = kind_given(first, extension);
     let KindGiven::Of(kind) = a1 else {

@@ -3,7 +3,7 @@ use lib.ListN.{get_or}
 use Rattle.header.specs.Lead.{table_of}
 use Rattle.record.specs.Record.{header_from}
 use Rattle.header.specs.Short.{HeaderWords}
-use Rattle.writer.specs.Write.{lent_words, write_where, write_words}
+use Rattle.writer.specs.Write.{held_words, write_where, write_words}
 use Rattle.writer.proofs.Known.{known-few, known_out_lem}
 use borrow.Author.Rules.{rules}
 use Rattle.writer.proofs.write.write_words_in.Goals as goal
@@ -29,6 +29,6 @@ pub returns : goal.returns
 unfolding write_words write_where header_from
 returns c =
     let a = c.args in
-    let w : HeaderWords = lent_words a.numbers.now a.signed.now a.l0.now a.l1.now a.marking.now a.w0.now a.w1.now in
+    let w : HeaderWords = held_words a.numbers.now a.signed.now a.l0.now a.l1.now a.marking.now a.w0.now a.w1.now in
     let e = sym c.sets_for-a2.ensures ∙ c.in-There.is in
     rw (← c.kind_given-a1.ensures, c.in-Of.is, e, ← known_out_lem (table_of a.sequences.now a.pictures.now) _ w a.out.now _ _ _ e) c.write_known.ensures
