@@ -17,5 +17,6 @@ const MOST: u64 = 65536;
 fn main(rt: HostRuntime) -> io::Result<()> {
     let mut s = Vec::new(rt.alloc());
     rt.reader().take(MOST).read_to_end(&mut s)?;
+    s.resize(65536, 0)?; // zeros stand behind the input
     cases::all(&rt, &s)
 }

@@ -1,3 +1,4 @@
+use borrow.Author.Rules.{rules}
 use native.Mathlib.Omega.{arith}
 use mathlib.Core.Path.{refl, sym, ◌∙◌}
 use lib.Seq.{take_all}
@@ -18,13 +19,10 @@ returns-in_default c =
     let k = prefix-kept c.args.kind (body_bits (take near u) 4) (behind_bits u 4 near) h.value h.base_after _ _ c.in_default.is in
     record { value = rw e k.0; base_after = rw e k.1 }
 
-pub returns-then-may_change : goal.returns-then-may_change
-returns-then-may_change c = c.prefix_far.ensures
-
 pub returns : goal.returns
 returns c =
     let u = c.args.unit.now in
     let h = c.prefix_near-a.ensures in
     let e = cut-bits u 4 near (omega arith) (omega arith) in
-    let k = prefix-refusal-kept c.args.kind (body_bits (take near u) 4) (behind_bits u 4 near) (sym c.in-Refused.is ∙ h.value) h.base_after _ refl (sym c.may_change.ensures ∙ c.if-may_change.false) in
+    let k = prefix-refusal-kept c.args.kind (body_bits (take near u) 4) (behind_bits u 4 near) (sym c.in-Refused.is ∙ h.value) h.base_after _ refl (rw (← c.may_change.ensures) (search rules)) in
     record { value = rw e k.0; base_after = rw e k.1 }
