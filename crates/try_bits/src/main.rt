@@ -11,12 +11,21 @@ mod cases; // the input: one case after another
 
 use std::io::{self, Read};
 
-// More than the input has.
-const MOST: u64 = 65536;
+// To the front of `d`, until it is full or the input ends.
+fn fill(from: &mut impl Read, d: &mut [u8]) -> io::Result<()> {
+    let mut done: usize = 0;
+    while done < d.len() {
+        let more = from.read(&mut d[done..])?;
+        if more == 0 {
+            return Ok(());
+        }
+        done += more;
+    }
+    Ok(())
+}
 
 fn main(rt: HostRuntime) -> io::Result<()> {
-    let mut s = Vec::new(rt.alloc());
-    rt.reader().take(MOST).read_to_end(&mut s)?;
-    s.resize(65536, 0)?; // zeros stand behind the input
+    let mut s = [0u8; 65536]; // zeros stand behind the input
+    fill(&mut rt.reader(), &mut s)?;
     cases::all(&rt, &s)
 }
