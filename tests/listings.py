@@ -218,14 +218,14 @@ def main():
     folder = os.open(HERE, os.O_RDONLY)
     done = subprocess.run(program, stdin=folder, capture_output=True)
     count += 1
-    if done.stdout or b"cannot be read" not in done.stderr:
-        faults.append(f"a read that fails: the program wrote {done.stdout!r} and said {done.stderr!r}")
+    if done.stdout or done.returncode != 1 or b"cannot be read" not in done.stderr:
+        faults.append(f"a read that fails: the program wrote {done.stdout!r}, said {done.stderr!r} and ended with {done.returncode}")
     # nor is a line that cannot be written taken for written
     with open("/dev/full", "wb") as full:
         done = subprocess.run(program, input=SAMPLE, stdout=full, stderr=subprocess.PIPE)
     count += 1
-    if b"cannot be written" not in done.stderr:
-        faults.append(f"a write that fails: the program said {done.stderr!r}")
+    if done.returncode != 1 or b"cannot be written" not in done.stderr:
+        faults.append(f"a write that fails: the program said {done.stderr!r} and ended with {done.returncode}")
     for fault in faults:
         print("listings:", fault)
     if faults:
