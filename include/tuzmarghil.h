@@ -28,6 +28,7 @@ typedef struct {
   size_t bytes;
 } tuz_ConvertedOut;
 
+/* A flag that may be absent: its mark, and its value, which is clear where it is not there. */
 typedef struct {
   bool there;
   bool value;

@@ -17,7 +17,7 @@ from promises import ROOT, functions, plain
 THEOREMS = {"Demands": "demand-", "Behind": "behind-", "Bound": "bound-", "Widths": "widths-", "Sets": "sets-", "Headers": "headers-", "Exposures": "exposures-"}  # files of crates/promises/proofs, and how the theorems for signers begin
 MODULE = re.compile(r"Rattle\.(\w+)\.(specs|proofs)\.([\w.]+)$")
 USE = re.compile(r"^(?:ghost )?use (\S+?)(?:\.\{([^}]*)\}|(?: as (\S+?))?);?$", re.M | re.S)
-SIGNATURE = re.compile(r"^( *)((?:(?:abbrev|unfoldable|pub) )*)(record |data )?(«?[^\s(){}:«»]+»?)(?= .*:| *:|$)")
+SIGNATURE = re.compile(r"^( *)((?:(?:pattern|abbrev|unfoldable|pub) )*)(record |data )?(«?[^\s(){}:«»]+»?)(?= .*:| *:|$)")
 WORD = re.compile(r"[^\s(){}\[\],;\"⌜⌝]+")
 
 

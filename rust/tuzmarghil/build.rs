@@ -5,12 +5,11 @@ use std::{env, fs};
 
 /// The crate that exports, and the files whose `#[repr(C)]` structs cross the boundary, or are made of the words that do (`Prefix` stands among them and is neither).
 const EXPORTS: &str = "exports";
-const RECORDS: [&str; 18] = [
+const RECORDS: [&str; 17] = [
     "table/src/sets.rt",
     "table/src/table.rt",
     "syntax/src/marks.rt",
     "syntax/src/record.rt",
-    "lists/src/list_words.rt",
     "weights/src/weight_words.rt",
     "unit/src/head.rt",
     "exports/src/sets.rt",
@@ -87,12 +86,16 @@ fn archive(root: &Path, name: &str) -> PathBuf {
     root.join("crates").join(EXPORTS).join("out").join(name)
 }
 
+/// The one struct that C needs a name for and Rust has already: `raw` says so by a type's name.
+const MARKED_FLAG: &str = "pub struct MarkedFlag {";
+
 /// The `#[repr(C)]` structs of a Rattle file, as Rust: they are Rust's own text but for `derive`, and comments become documentation.
 fn records(file: &Path) -> String {
     let source = fs::read_to_string(file).unwrap_or_else(|e| panic!("{}: {e}", file.display()));
     let mut text = String::new();
     let mut comment = String::new();
     let mut inside = false;
+    let mut start = 0;
     for line in source.lines() {
         let bare = line.trim_start();
         if let Some(words) = bare.strip_prefix("// ") {
@@ -104,9 +107,13 @@ fn records(file: &Path) -> String {
                 comment += &told;
             }
         } else if line == "#[repr(C)]" {
+            start = text.len();
             text += &std::mem::take(&mut comment);
             text += "#[derive(Clone, Copy, Debug, PartialEq, Eq)]\n#[repr(C)]\n";
             inside = true;
+        } else if inside && line == MARKED_FLAG {
+            text.truncate(start);
+            inside = false;
         } else if inside && !line.starts_with("#[derive(") {
             text += line;
             text += "\n";

@@ -1,47 +1,27 @@
 -- What an answer of the code says determines it: so the contract of a read allows one answer only.
 use mathlib.Core.Path.{◌≡◌, refl, sym, ap, ◌∙◌}
-use Prim.Native.Nat.{ℕ}
-use mathlib.Core.Bool.{Bool}
-use lib.IntN.{ℤ}
+use Rattle.std.specs.Prelude.{Ok, Err}
 use Rattle.bits.specs.Refusals.{Res, got, no}
-use Rattle.bits.specs.declared.read.Read.{Read}
-use Rattle.bits.specs.declared.read.ReadSigned.{ReadSigned}
-use Rattle.bits.specs.declared.read.ReadFlag.{ReadFlag}
-use Rattle.bits.specs.Answers.{as_read, as_signed, as_flag}
+use Rattle.bits.specs.declared.read.Cursor.{Cursor}
+use Rattle.bits.specs.Answers.{Read, as_read}
 
 -- a function with a way back
-back_one : {A B : Type 0} (f : A → B) (g : B → A) → ((a : A) → g (f a) ≡ a) → (a b : A) → f a ≡ f b → a ≡ b
+pub back_one : {A B : Type 0} (f : A → B) (g : B → A) → ((a : A) → g (f a) ≡ a) → (a b : A) → f a ≡ f b → a ≡ b
 back_one f g h a b e = sym (h a) ∙ ap g e ∙ h b
 
-abbrev to_read : Res ℕ → Read
-to_read (got v e) = Read.Got v (record { at = e })
-to_read (no r) = Read.Refused r
+abbrev to_read : {A : Type 0} → Res A → Read A
+to_read (got v e) = Ok (v, record { at = e })
+to_read (no r) = Err r
 
-read_back : (r : Read) → to_read (as_read r) ≡ r
-read_back (Read.Got v c) = refl
-read_back (Read.Refused r) = refl
+read_back : {A : Type 0} (r : Read A) → to_read (as_read r) ≡ r
+read_back (Ok (v, c)) = refl
+read_back (Err r) = refl
 
-pub read_one : (r q : Read) → as_read r ≡ as_read q → r ≡ q
+pub read_one : {A : Type 0} (r q : Read A) → as_read r ≡ as_read q → r ≡ q
 read_one = back_one as_read to_read read_back
 
-abbrev to_signed : Res ℤ → ReadSigned
-to_signed (got v e) = ReadSigned.Got v (record { at = e })
-to_signed (no r) = ReadSigned.Refused r
-
-signed_back : (r : ReadSigned) → to_signed (as_signed r) ≡ r
-signed_back (ReadSigned.Got v c) = refl
-signed_back (ReadSigned.Refused r) = refl
-
-pub signed-one : (r q : ReadSigned) → as_signed r ≡ as_signed q → r ≡ q
-signed-one = back_one as_signed to_signed signed_back
-
-abbrev to_flag : Res Bool → ReadFlag
-to_flag (got v e) = ReadFlag.Got v (record { at = e })
-to_flag (no r) = ReadFlag.Refused r
-
-flag-back : (r : ReadFlag) → to_flag (as_flag r) ≡ r
-flag-back (ReadFlag.Got v c) = refl
-flag-back (ReadFlag.Refused r) = refl
-
-pub flag_one : (r q : ReadFlag) → as_flag r ≡ as_flag q → r ≡ q
-flag_one = back_one as_flag to_flag flag-back
+-- and an answer has one value and one place
+pub one-answer : {A : Type 0} {a b : A} {c d : Cursor} → ◌≡◌ {A = Read A} (Ok (a, c)) (Ok (b, d)) → (a ≡ b) × (c ≡ d)
+one-answer {A} {a} {b} {c} {d} e =
+    let p : ◌≡◌ {A = A × Cursor} (a, c) (b, d) = cc e in
+    (ap (λ (x : A × Cursor). x.0) p, ap (λ (x : A × Cursor). x.1) p)

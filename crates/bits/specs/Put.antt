@@ -1,9 +1,10 @@
 -- Writing bits at a place of a buffer: what is answered, and what the buffer then holds.
 use Rattle.std.specs.Prelude.{ℕ, suc, ◌+◌, ◌-◌, ◌/◌, ◌%◌, List, [], ◌∷◌, ◌++◌, Bool, false, leb, pos, length, get_or, take, set, replicate}
-use Rattle.bits.specs.declared.put.Wrote.{Wrote}
-use Rattle.bits.specs.declared.put.Wrote.TheVariants.{At, Refused}
 use Rattle.bits.specs.Refusals.{pick, refusal, no_bits, buffer_too_short}
 use Rattle.bits.specs.Bits.{Bits, digits, number_of, bits_of}
+use Rattle.std.specs.Prelude.{Result, Ok, Err}
+use Rattle.bits.specs.declared.read.Cursor.{Cursor}
+use Rattle.bits.specs.declared.refusals.Refusal.{Refusal}
 
 -- byte b with the bit x at place r: the bits before it as they were, and zeros after it
 unfoldable pub put_bit : ℕ → ℕ → Bool → ℕ
@@ -16,7 +17,7 @@ put_bits d at (x ∷ l) = put_bits (set d (at / 8) (put_bit (get_or d (at / 8) 0
 
 -- the answer, and the buffer at exit
 pub record Written : Type 0 where
-  pub answer : Wrote
+  pub answer : Result Cursor Refusal
   pub left : List ℕ
 
 -- how many bytes n bits need
@@ -28,6 +29,6 @@ unfoldable pub written : Bool → Bits → List ℕ → ℕ → Written
 written good l d at =
     pick good
     (pick (leb (at + length l) (length (bits_of d)))
-    (record { answer = At (record { at = at + length l }); left = put_bits d at l })
-    (record { answer = Refused (refusal buffer_too_short (pos (bytes_for (at + length l)))); left = d }))
-    (record { answer = Refused (refusal no_bits (pos 0)); left = d })
+    (record { answer = Ok (record { at = at + length l }); left = put_bits d at l })
+    (record { answer = Err (refusal buffer_too_short (pos (bytes_for (at + length l)))); left = d }))
+    (record { answer = Err (refusal no_bits (pos 0)); left = d })

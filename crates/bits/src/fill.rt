@@ -22,7 +22,7 @@ fn chunk(at: usize, left: u32) -> u32
     ensures { (0 < result) × (result ≤ left) × (at % 8 + result ≤ 8) }
 {
     let room = 8 - (at % 8) as u32;
-    if left < room { left } else { room }
+    left.min(room)
 }
 
 // The first `take` of the low `left` bits of w.

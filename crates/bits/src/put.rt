@@ -11,35 +11,27 @@ use crate::read::{Cursor, field_width};
 use crate::refusals::{BUFFER_TOO_SHORT, NO_BITS, Refusal, refuse};
 use crate::window::reached;
 
-// What a write answers.
-#[derive(Clone, Copy)]
-pub enum Wrote {
-    // the place after what was written
-    At(Cursor),
-    Refused(Refusal),
-}
-
 // Writes the n bits of v, u(n). A width over 32 counts as 32.
-pub fn put_bits(d: &mut [u8], c: Cursor, n: u32, v: u32) -> Wrote
+pub fn put_bits(d: &mut [u8], c: Cursor, n: u32, v: u32) -> Result<Cursor, Refusal>
     ensures value { result ≡ (written (u_good n v) (u_bits n v) d.old c.at).answer }
     ensures d_after { d.new ≡ (written (u_good n v) (u_bits n v) d.old c.at).left }
 {
     let at = c.at;
     let w = field_width(n);
     if !fits(v, w) {
-        return Wrote::Refused(refuse(NO_BITS, 0));
+        return Err(refuse(NO_BITS, 0));
     }
     if !has_room(d.len(), at, w) {
-        return Wrote::Refused(refuse(BUFFER_TOO_SHORT, bytes_for(at, w)));
+        return Err(refuse(BUFFER_TOO_SHORT, bytes_for(at, w)));
     }
     fill(d, at, w, v);
-    Wrote::At(Cursor {
+    Ok(Cursor {
         at: at + w as usize,
     })
 }
 
 // Writes a flag.
-pub fn put_flag(d: &mut [u8], c: Cursor, b: bool) -> Wrote
+pub fn put_flag(d: &mut [u8], c: Cursor, b: bool) -> Result<Cursor, Refusal>
     ensures value { result ≡ (written true (flag_bits b) d.old c.at).answer }
     ensures d_after { d.new ≡ (written true (flag_bits b) d.old c.at).left }
 {
@@ -47,34 +39,34 @@ pub fn put_flag(d: &mut [u8], c: Cursor, b: bool) -> Wrote
 }
 
 // Writes the code ue(v).
-pub fn put_ue(d: &mut [u8], c: Cursor, v: u32) -> Wrote
+pub fn put_ue(d: &mut [u8], c: Cursor, v: u32) -> Result<Cursor, Refusal>
     ensures value { result ≡ (written (ue_good v) (ue_bits v) d.old c.at).answer }
     ensures d_after { d.new ≡ (written (ue_good v) (ue_bits v) d.old c.at).left }
 {
     let at = c.at;
     if v == 4294967295 {
-        return Wrote::Refused(refuse(NO_BITS, 0));
+        return Err(refuse(NO_BITS, 0));
     }
     let x = v + 1;
     let z = 31 - u32::leading_zeros(x);
     let size = 2 * z + 1;
     if !has_room(d.len(), at, size) {
-        return Wrote::Refused(refuse(BUFFER_TOO_SHORT, bytes_for(at, size)));
+        return Err(refuse(BUFFER_TOO_SHORT, bytes_for(at, size)));
     }
     fill(d, at, z, 0);
     fill(d, at + z as usize, z + 1, x);
-    Wrote::At(Cursor {
+    Ok(Cursor {
         at: at + size as usize,
     })
 }
 
 // Writes the code se(v). The least i32 has none.
-pub fn put_se(d: &mut [u8], c: Cursor, v: i32) -> Wrote
+pub fn put_se(d: &mut [u8], c: Cursor, v: i32) -> Result<Cursor, Refusal>
     ensures value { result ≡ (written (se_good v) (se_bits v) d.old c.at).answer }
     ensures d_after { d.new ≡ (written (se_good v) (se_bits v) d.old c.at).left }
 {
     if v == -2147483648 {
-        return Wrote::Refused(refuse(NO_BITS, 0));
+        return Err(refuse(NO_BITS, 0));
     }
     put_ue(d, c, se_code(v))
 }

@@ -2,11 +2,11 @@
 ghost use Rattle.std.specs.Prelude.{◌≡◌, ◌+◌, ◌-◌, ◌*◌, ◌^◌, ◌≤◌, ◌<◌, length};
 ghost use Rattle.bits.specs.Bits.{reach, bits_of, bytes_bits};
 ghost use Rattle.bits.specs.Codes.{width_of, fixed_at, u_at, flag_at, ue_at, se_at, se_of};
-ghost use Rattle.bits.specs.Answers.{as_read, as_signed, as_flag, why_read, why_signed, why_flag};
 ghost use Rattle.bits.specs.Refusals.{pick};
 ghost use Rattle.bits.specs.Windows.{bits_at};
+ghost use Rattle.bits.specs.Answers.{as_read};
 
-use crate::refusals::{RAN_OUT, Refusal, TOO_MANY_ZEROS, no_refusal, refuse_at};
+use crate::refusals::{RAN_OUT, Refusal, TOO_MANY_ZEROS, refuse_at};
 use crate::window::{last_window, long_window, reached, short_window, within};
 
 // The place of the next bit. Bit 0 is the top bit of byte 0.
@@ -15,26 +15,8 @@ pub struct Cursor {
     pub at: usize,
 }
 
-// What an unsigned read finds. In every answer the refusal is the first variant: the compiler takes a tag of 0 for the rare one.
-#[derive(Clone, Copy)]
-pub enum Read {
-    Refused(Refusal),
-    Got(u32, Cursor),
-}
-
-// What a signed read finds.
-#[derive(Clone, Copy)]
-pub enum ReadSigned {
-    Refused(Refusal),
-    Got(i32, Cursor),
-}
-
-// What reading a flag finds.
-#[derive(Clone, Copy)]
-pub enum ReadFlag {
-    Refused(Refusal),
-    Got(bool, Cursor),
-}
+// What reading at a place finds: a value and the place after it, or the refusal.
+pub type Read<T> = Result<(T, Cursor), Refusal>;
 
 impl Cursor {
     pub fn new() -> Self
@@ -44,29 +26,27 @@ impl Cursor {
     }
 
     // The next n bits, u(n). A width over 32 counts as 32.
-    pub fn bits(self, s: &[u8], n: u32) -> Read
+    pub fn bits(self, s: &[u8], n: u32) -> Read<u32>
         ensures { as_read result ≡ u_at n (bits_of s.now) self.at }
     {
         let at = self.at;
-        if n <= 25 {
-            if at / 8 + 3 < reached(s.len()) {
-                let w = short_window(s, at) as u64;
-                let next = at + n as usize;
-                return Read::Got((w >> (32 - n)) as u32, Cursor { at: next });
-            }
+        if n <= 25 && at / 8 + 3 < reached(s.len()) {
+            let w = short_window(s, at) as u64;
+            let next = at + n as usize;
+            return Ok(((w >> (32 - n)) as u32, Cursor { at: next }));
         }
         slow(within(s), at, false, field_width(n))
     }
 
     // The next bit, a flag.
-    pub fn flag(self, s: &[u8]) -> ReadFlag
-        ensures { as_flag result ≡ flag_at (bits_of s.now) self.at }
+    pub fn flag(self, s: &[u8]) -> Read<bool>
+        ensures { as_read result ≡ flag_at (bits_of s.now) self.at }
     {
         flag_at(within(s), self.at)
     }
 
     // The next ue(v). With at most 12 zeros in front, which a window of at least 2^19 has, the code lies in the window's 25 bits.
-    pub fn ue(self, s: &[u8]) -> Read
+    pub fn ue(self, s: &[u8]) -> Read<u32>
         ensures { as_read result ≡ ue_at (bits_of s.now) self.at }
     {
         let at = self.at;
@@ -76,48 +56,18 @@ impl Cursor {
                 let z = u32::leading_zeros(w);
                 let size = 2 * z + 1;
                 let next = at + size as usize;
-                return Read::Got((w >> (32 - size)) - 1, Cursor { at: next });
+                return Ok(((w >> (32 - size)) - 1, Cursor { at: next }));
             }
         }
         slow(within(s), at, true, 0)
     }
 
     // The next se(v).
-    pub fn se(self, s: &[u8]) -> ReadSigned
-        ensures { as_signed result ≡ se_at (bits_of s.now) self.at }
+    pub fn se(self, s: &[u8]) -> Read<i32>
+        ensures { as_read result ≡ se_at (bits_of s.now) self.at }
     {
-        match self.ue(s) {
-            Read::Got(k, next) => ReadSigned::Got(signed(k), next),
-            Read::Refused(r) => ReadSigned::Refused(r),
-        }
-    }
-}
-
-// The refusal of an answer that is one, for a `let .. else`, which cannot bind it.
-pub fn why(a: Read) -> Refusal
-    ensures { result ≡ why_read a }
-{
-    match a {
-        Read::Got(_, _) => no_refusal(),
-        Read::Refused(r) => r,
-    }
-}
-
-pub fn why_signed(a: ReadSigned) -> Refusal
-    ensures { result ≡ why_signed a }
-{
-    match a {
-        ReadSigned::Got(_, _) => no_refusal(),
-        ReadSigned::Refused(r) => r,
-    }
-}
-
-pub fn why_flag(a: ReadFlag) -> Refusal
-    ensures { result ≡ why_flag a }
-{
-    match a {
-        ReadFlag::Got(_, _) => no_refusal(),
-        ReadFlag::Refused(r) => r,
+        let (k, next) = self.ue(s)?;
+        Ok((signed(k), next))
     }
 }
 
@@ -129,34 +79,30 @@ pub(crate) fn field_width(n: u32) -> u32
 }
 
 // The flag at a place. Its byte is enough.
-fn flag_at(s: &[u8], at: usize) -> ReadFlag
+fn flag_at(s: &[u8], at: usize) -> Read<bool>
     requires { length s.now ≤ reach }
-    ensures { as_flag result ≡ flag_at (bytes_bits s.now) at }
+    ensures { as_read result ≡ flag_at (bytes_bits s.now) at }
 {
     let i = at / 8;
     if s.len() <= i {
-        return ReadFlag::Refused(refuse_at(RAN_OUT, 0, at));
+        return Err(refuse_at(RAN_OUT, 0, at));
     }
     let bit = s[i] >> (7 - at % 8);
-    ReadFlag::Got(bit % 2 == 1, Cursor { at: at + 1 })
+    Ok((bit % 2 == 1, Cursor { at: at + 1 }))
 }
 
 // The code or the n bits at a place, wherever they lie: what `ue` and `bits` do near the end, and for long codes and wide fields. One function, so that the
 // compiler keeps it out of line and what comes before it goes into the callers. A short unit calls it from the last 31 bits alone, so these have a way of their own.
-fn slow(s: &[u8], at: usize, code: bool, n: u32) -> Read
+fn slow(s: &[u8], at: usize, code: bool, n: u32) -> Read<u32>
     requires { (length s.now ≤ reach) × (n ≤ 32) }
     ensures { as_read result ≡ pick code (ue_at (bytes_bits s.now) at) (fixed_at n (bytes_bits s.now) at) }
 {
     let m = s.len();
     if m * 8 < at {
-        return Read::Refused(refuse_at(RAN_OUT, 0, at));
+        return Err(refuse_at(RAN_OUT, 0, at));
     }
-    if at < m * 8 {
-        if m * 8 - at < 32 {
-            if 4 <= m {
-                return last_bits(s, at, code, n);
-            }
-        }
+    if at < m * 8 && m * 8 - at < 32 && 4 <= m {
+        return last_bits(s, at, code, n);
     }
     let w = long_window(s, at);
     if code {
@@ -167,7 +113,7 @@ fn slow(s: &[u8], at: usize, code: bool, n: u32) -> Read
 }
 
 // The code or the n bits at a place of the last 31 bits.
-fn last_bits(s: &[u8], at: usize, code: bool, n: u32) -> Read
+fn last_bits(s: &[u8], at: usize, code: bool, n: u32) -> Read<u32>
     requires { (length s.now ≤ reach) × (4 ≤ length s.now) × (8 * length s.now < at + 32) × (at < 8 * length s.now) × (n ≤ 32) }
     ensures { as_read result ≡ pick code (ue_at (bytes_bits s.now) at) (fixed_at n (bytes_bits s.now) at) }
 {
@@ -180,45 +126,45 @@ fn last_bits(s: &[u8], at: usize, code: bool, n: u32) -> Read
 }
 
 // The n bits at a place of the last 31 bits, whose window is w.
-fn last_fixed(s: &[u8], at: usize, w: u32, n: u32) -> Read
+fn last_fixed(s: &[u8], at: usize, w: u32, n: u32) -> Read<u32>
     requires { (length s.now ≤ reach) × (at ≤ 8 * length s.now) × (w ≡ bits_at s.now at 32) × (n ≤ 32) }
     ensures { as_read result ≡ fixed_at n (bytes_bits s.now) at }
 {
     let left = s.len() * 8 - at;
     if left < n as usize {
-        return Read::Refused(refuse_at(RAN_OUT, 0, at));
+        return Err(refuse_at(RAN_OUT, 0, at));
     }
     let next = at + n as usize;
-    Read::Got(((w as u64) >> (32 - n)) as u32, Cursor { at: next })
+    Ok((((w as u64) >> (32 - n)) as u32, Cursor { at: next }))
 }
 
 // The ue(v) code at a place of the last 31 bits, whose window is w. Where no bit is set 32 zeros are counted, and a code of 65 bits runs out.
-fn last_code(s: &[u8], at: usize, w: u32) -> Read
+fn last_code(s: &[u8], at: usize, w: u32) -> Read<u32>
     requires { (length s.now ≤ reach) × (at ≤ 8 * length s.now) × (8 * length s.now < at + 32) × (w ≡ bits_at s.now at 32) }
     ensures { as_read result ≡ ue_at (bytes_bits s.now) at }
 {
     let left = s.len() * 8 - at;
     let size = 2 * (u32::leading_zeros(w) as usize) + 1;
     if size <= left {
-        return Read::Got((w >> (32 - size)) - 1, Cursor { at: at + size });
+        return Ok(((w >> (32 - size)) - 1, Cursor { at: at + size }));
     }
-    Read::Refused(refuse_at(RAN_OUT, 0, at))
+    Err(refuse_at(RAN_OUT, 0, at))
 }
 
 // The n bits at a place, whose window is w.
-fn fixed_in(s: &[u8], at: usize, w: u64, n: u32) -> Read
+fn fixed_in(s: &[u8], at: usize, w: u64, n: u32) -> Read<u32>
     requires { (length s.now ≤ reach) × (at ≤ 8 * length s.now) × (w ≡ bits_at s.now at 64) × (n ≤ 32) }
     ensures { as_read result ≡ fixed_at n (bytes_bits s.now) at }
 {
     let size = n as usize;
     if s.len() * 8 - at < size {
-        return Read::Refused(refuse_at(RAN_OUT, 0, at));
+        return Err(refuse_at(RAN_OUT, 0, at));
     }
-    Read::Got(((w >> 32) >> (32 - n)) as u32, Cursor { at: at + size })
+    Ok((((w >> 32) >> (32 - n)) as u32, Cursor { at: at + size }))
 }
 
 // The ue(v) code at a place, whose window is w. Its zeros are counted at once.
-fn code_in(s: &[u8], at: usize, w: u64) -> Read
+fn code_in(s: &[u8], at: usize, w: u64) -> Read<u32>
     requires { (length s.now ≤ reach) × (at ≤ 8 * length s.now) × (w ≡ bits_at s.now at 64) }
     ensures { as_read result ≡ ue_at (bytes_bits s.now) at }
 {
@@ -227,14 +173,14 @@ fn code_in(s: &[u8], at: usize, w: u64) -> Read
     if z < 32 {
         let size = 2 * (z as usize) + 1;
         if left < size {
-            return Read::Refused(refuse_at(RAN_OUT, 0, at));
+            return Err(refuse_at(RAN_OUT, 0, at));
         }
-        Read::Got(((w >> (64 - size)) - 1) as u32, Cursor { at: at + size })
+        Ok((((w >> (64 - size)) - 1) as u32, Cursor { at: at + size }))
     } else {
         if left < 32 {
-            return Read::Refused(refuse_at(RAN_OUT, 0, at));
+            return Err(refuse_at(RAN_OUT, 0, at));
         }
-        Read::Refused(refuse_at(TOO_MANY_ZEROS, 0, at))
+        Err(refuse_at(TOO_MANY_ZEROS, 0, at))
     }
 }
 

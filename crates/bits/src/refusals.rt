@@ -1,7 +1,7 @@
 // The rules' refusal numbers and sizes, each named once, and the two places where a refusal is made.
 ghost use Rattle.std.specs.Prelude.{◌≡◌};
 ghost use Rattle.bits.specs.Refusals.{refusal, refusal_at};
-ghost use Rattle.bits.specs.Answers.{none};
+ghost use Rattle.bits.specs.Answers.{none, why};
 
 pub const NO_BYTE: u8 = 1;
 
@@ -107,4 +107,24 @@ pub fn no_refusal() -> Refusal
     ensures { result ≡ none }
 {
     refuse(0, 0)
+}
+
+// A refusal on its way out. Out of line and cold, so that the compiler takes every path to it for the rare one.
+#[cold]
+#[inline(never)]
+fn passed_on(r: Refusal) -> Refusal
+    ensures { result ≡ r }
+{
+    r
+}
+
+// The refusal of an answer that is one, for a `let .. else`, which cannot bind it.
+#[inline(always)]
+pub fn why<T: Copy>(a: Result<T, Refusal>) -> Refusal
+    ensures { result ≡ why a }
+{
+    match a {
+        Ok(_) => no_refusal(),
+        Err(r) => passed_on(r),
+    }
 }

@@ -12,11 +12,11 @@ use Rattle.bits.specs.Refusals.{pick, limit}
 use Rattle.bits.specs.declared.refusals.Refusal.{Refusal}
 use Rattle.bits.specs.Bits.{bytes_bits, bits_of}
 use Rattle.bits.proofs.Slices.{bits-reach}
-use Rattle.escape.specs.declared.escape.Body.{Body}
 use Rattle.escape.specs.Body.{body, start_with, Unescaped, unescaped}
 use Rattle.escape.proofs.Bodies.{front, part_length, same-room, done}
 use Rattle.syntax.specs.SliceHeader.{any_set}
 use Rattle.cut.specs.Seam.{behind_bits, near, far, near_body, far_body}
+use Rattle.std.specs.Prelude.{Result, Ok, Err}
 
 abbrev body_to : List ℕ → ℕ → ℕ → List ℕ
 body_to unit from end = body 0 (drop from (take end unit))
@@ -24,18 +24,18 @@ body_to unit from end = body 0 (drop from (take end unit))
 -- ---- unescaping
 
 module _ (unit : List ℕ) (from end : ℕ) (local : List ℕ) (h : end ≤ length unit) (l : end ≤ length local) (m : end ≤ limit) where
-  opened : unescaped (take end unit) from local ≡ record { answer = Body.Of (length (body_to unit from end)); left = start_with (body_to unit from end) local }
+  opened : unescaped (take end unit) from local ≡ record { answer = Ok (length (body_to unit from end)); left = start_with (body_to unit from end) local }
   opened = let e = length-take-le end unit h in done (take end unit) from local (omega arith) (omega arith)
 
-  pub first_read : {a : Body} {z : List ℕ} {n : ℕ} → a ≡ (unescaped (take end unit) from local).answer → z ≡ (unescaped (take end unit) from local).left → a ≡ Body.Of n
+  pub first_read : {a : Result ℕ Refusal} {z : List ℕ} {n : ℕ} → a ≡ (unescaped (take end unit) from local).answer → z ≡ (unescaped (take end unit) from local).left → a ≡ Ok n
       → (n ≡ length (body_to unit from end)) × (z ≡ start_with (body_to unit from end) local)
   first_read {a} {z} {n} p q e =
-      let w : Body.Of n ≡ Body.Of (length (body_to unit from end)) = sym e ∙ p ∙ ap (λ (u : Unescaped). u.answer) opened in
+      let w : Ok n ≡ Ok (length (body_to unit from end)) = sym e ∙ p ∙ ap (λ (u : Unescaped). u.answer) opened in
       (cc, q ∙ ap (λ (u : Unescaped). u.left) opened)
 
-  pub first-none : {a : Body} {r : Refusal} → a ≡ (unescaped (take end unit) from local).answer → a ≡ Body.Refused r → ⊥
+  pub first-none : {a : Result ℕ Refusal} {r : Refusal} → a ≡ (unescaped (take end unit) from local).answer → a ≡ Err r → ⊥
   first-none {a} {r} p e =
-      let w : Body.Refused r ≡ Body.Of (length (body_to unit from end)) = sym e ∙ p ∙ ap (λ (u : Unescaped). u.answer) opened in
+      let w : Err r ≡ Ok (length (body_to unit from end)) = sym e ∙ p ∙ ap (λ (u : Unescaped). u.answer) opened in
       let z : ◌≡◌ {A = ℕ} 0 1 = cc in
       omega arith
 

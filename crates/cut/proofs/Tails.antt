@@ -7,7 +7,7 @@ use native.Mathlib.Omega.{arith}
 use native.Mathlib.Numerals.{add-one}
 use borrow.Author.Tests.{leb-true, leb-false}
 use lib.Dec.{leb}
-use lib.ListN.{length, get_or, take, drop, set, replicate, length-append, length-take, length-set, length-replicate, take-append-drop, drop_of_length-le}
+use lib.ListN.{length, get_or, take, drop, set, replicate, length-append, length-take, length-replicate, take-append-drop, drop_of_length-le}
 use lib.Seq.{drop-cons, take_all, length-take-le, take-append_seam}
 use Rattle.bits.specs.Refusals.{pick}
 use Rattle.bits.specs.Bits.{Bits, bytes_bits, bits_of}
@@ -71,10 +71,6 @@ pub none_left : (unit : List ℕ) (z i : ℕ) → length unit ≤ i → body z (
 none_left unit z i h = rw (drop_of_length-le unit {i = i} h)
 
 -- ---- bytes that are stored
-
-pub kept-room : (b : Bool) (l : List ℕ) (n a : ℕ) → length (pick b l (set l n a)) ≡ length l
-kept-room true l n a = refl
-kept-room false l n a = length-set l n a
 
 -- n bytes of the body x stand at the front of an array that was `before`, and y is what follows them
 pub record Stored (x before local : List ℕ) (n : ℕ) (y : List ℕ) : Type 0 where

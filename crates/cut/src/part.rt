@@ -6,7 +6,7 @@ ghost use Rattle.cut.specs.Seam.{near_body, far_body, may_change};
 
 use crate::rest::{any_kept, zeros_before};
 use bits::refusals::{NOTHING_FOLLOWS, RAN_OUT, Refusal};
-use escape::escape::{Body, unescape};
+use escape::escape::unescape;
 use fields::conditions::either;
 
 // Nearly every header stands in the body of so many bytes: a block of the search (`scan::blocks`) and the two bytes behind it, so that one test passes over them.
@@ -29,8 +29,8 @@ fn first_bytes(unit: &[u8], from: usize, end: usize, local: &mut [u8]) -> usize
     ensures local_after { local.new ≡ start_with (body 0 (drop from (take end unit.now))) local.old }
 {
     match unescape(&unit[..end], from, local) {
-        Body::Of(n) => n,
-        Body::Refused(_) => 0,
+        Ok(n) => n,
+        Err(_) => 0,
     }
 }
 

@@ -35,10 +35,8 @@ pub(crate) fn zeros_before(unit: &[u8], from: usize, to: usize) -> usize
     ensures { (result ≡ zeros_over 0 (drop from (take to unit.now))) × (result ≤ to) }
 {
     let mut z: usize = 0;
-    let mut i = from;
-    while i < to {
+    for i in from..to {
         z = zeros_after(z, unit[i]);
-        i += 1;
     }
     z
 }
@@ -49,14 +47,12 @@ pub(crate) fn any_kept(unit: &[u8], from: usize, z: usize) -> bool
     ensures { result ≡ any_set (bytes_bits (body z (drop from unit.now))) }
 {
     let mut zeros = z;
-    let mut i = from;
-    while i < unit.len() {
+    for i in from..unit.len() {
         let a = unit[i];
         if stands(zeros, a) {
             return true;
         }
         zeros = zeros_after(zeros, a);
-        i += 1;
     }
     false
 }

@@ -26,12 +26,10 @@ pub fn body_bytes(unit: &[u8], from: usize) -> usize
 {
     let mut n: usize = 0;
     let mut zeros: usize = 0;
-    let mut i = from;
-    while i < unit.len() {
+    for i in from..unit.len() {
         let a = unit[i];
         n += kept(zeros, a);
         zeros = zeros_after(zeros, a);
-        i += 1;
     }
     n
 }
@@ -42,17 +40,18 @@ fn spot_of(unit: &[u8], from: usize, k: usize) -> Spot
 {
     let mut n: usize = 0;
     let mut zeros: usize = 0;
-    let mut i = from;
-    while i < unit.len() {
+    for i in from..unit.len() {
         if k <= n {
             return Spot { at: i, zeros };
         }
         let a = unit[i];
         n += kept(zeros, a);
         zeros = zeros_after(zeros, a);
-        i += 1;
     }
-    Spot { at: i, zeros }
+    Spot {
+        at: unit.len(),
+        zeros,
+    }
 }
 
 // A byte behind n that are kept, if it is kept too; how many there are then.
@@ -76,15 +75,13 @@ fn keep_from(unit: &[u8], from: usize, z: usize, local: &mut [u8]) -> usize
 {
     let mut n: usize = 0;
     let mut zeros = z;
-    let mut i = from;
-    while i < unit.len() {
+    for i in from..unit.len() {
         if 256 <= n {
             return n;
         }
         let a = unit[i];
         n = keep(local, n, zeros, a);
         zeros = zeros_after(zeros, a);
-        i += 1;
     }
     n
 }

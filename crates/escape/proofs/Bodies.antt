@@ -10,9 +10,10 @@ use lib.IntN.{pos}
 use lib.ListN.{length, take, drop, length-append, length-drop}
 use lib.Seq.{take-append_seam}
 use Rattle.bits.specs.Refusals.{pick, refusal, buffer_too_short, too_large, limit}
-use Rattle.escape.specs.declared.escape.Body.{Body}
 use Rattle.escape.specs.Body.{drops, zeros, body, start_with, Unescaped, placed, unescaped}
 use Rattle.escape.specs.Known.{known_body, unescaped_known}
+use Rattle.std.specs.Prelude.{Result, Ok, Err}
+use Rattle.bits.specs.declared.refusals.Refusal.{Refusal}
 
 -- ---- a body
 
@@ -40,39 +41,39 @@ same-room s scratch h = simp (length-append, length-drop) (omega arith)
 
 -- ---- the cases of an answer
 
-abbrev pub answered : Unescaped → Body
+abbrev pub answered : Unescaped → Result ℕ Refusal
 answered u = u.answer
 
 abbrev pub leaves : Unescaped → List ℕ
 leaves u = u.left
 
 module _ (unit b scratch : List ℕ) where
-  placed-large : limit < length unit → placed unit b scratch ≡ record { answer = Body.Refused (refusal too_large (pos 0)); left = scratch }
+  placed-large : limit < length unit → placed unit b scratch ≡ record { answer = Err (refusal too_large (pos 0)); left = scratch }
   unfolding placed
   placed-large h = rw (lt-leb (length unit) limit h)
 
   placed-short : length unit ≤ limit → length scratch < length unit
-      → placed unit b scratch ≡ record { answer = Body.Refused (refusal buffer_too_short (pos (length unit))); left = scratch }
+      → placed unit b scratch ≡ record { answer = Err (refusal buffer_too_short (pos (length unit))); left = scratch }
   unfolding placed
   placed-short h l = rw (le-leb (length unit) limit h, lt-leb (length unit) (length scratch) l)
 
-  placed-done : length unit ≤ limit → length unit ≤ length scratch → placed unit b scratch ≡ record { answer = Body.Of (length b); left = start_with b scratch }
+  placed-done : length unit ≤ limit → length unit ≤ length scratch → placed unit b scratch ≡ record { answer = Ok (length b); left = start_with b scratch }
   unfolding placed
   placed-done h l = rw (le-leb (length unit) limit h, le-leb (length unit) (length scratch) l)
 
 -- where the caller knows how far no 00 00 03 begins
 module _ (unit : List ℕ) (from known : ℕ) (scratch : List ℕ) where
-  pub known-large : limit < length unit → unescaped_known unit from known scratch ≡ record { answer = Body.Refused (refusal too_large (pos 0)); left = scratch }
+  pub known-large : limit < length unit → unescaped_known unit from known scratch ≡ record { answer = Err (refusal too_large (pos 0)); left = scratch }
   unfolding unescaped_known
   known-large h = placed-large unit (known_body unit from known) scratch h
 
   pub known-short : length unit ≤ limit → length scratch < length unit
-      → unescaped_known unit from known scratch ≡ record { answer = Body.Refused (refusal buffer_too_short (pos (length unit))); left = scratch }
+      → unescaped_known unit from known scratch ≡ record { answer = Err (refusal buffer_too_short (pos (length unit))); left = scratch }
   unfolding unescaped_known
   known-short h l = placed-short unit (known_body unit from known) scratch h l
 
   pub known-done : length unit ≤ limit → length unit ≤ length scratch
-      → unescaped_known unit from known scratch ≡ record { answer = Body.Of (length (known_body unit from known)); left = start_with (known_body unit from known) scratch }
+      → unescaped_known unit from known scratch ≡ record { answer = Ok (length (known_body unit from known)); left = start_with (known_body unit from known) scratch }
   unfolding unescaped_known
   known-done h l = placed-done unit (known_body unit from known) scratch h l
 
@@ -82,17 +83,17 @@ module _ (unit : List ℕ) (from : ℕ) (scratch : List ℕ) where
   unfolding unescaped unescaped_known
   none-known = let z : 0 - from ≡ 0 = omega arith in rw z
 
-  pub too_large_lem : limit < length unit → unescaped unit from scratch ≡ record { answer = Body.Refused (refusal too_large (pos 0)); left = scratch }
+  pub too_large_lem : limit < length unit → unescaped unit from scratch ≡ record { answer = Err (refusal too_large (pos 0)); left = scratch }
   unfolding unescaped
   too_large_lem h = placed-large unit (body 0 (drop from unit)) scratch h
 
   pub too_short : length unit ≤ limit → length scratch < length unit
-      → unescaped unit from scratch ≡ record { answer = Body.Refused (refusal buffer_too_short (pos (length unit))); left = scratch }
+      → unescaped unit from scratch ≡ record { answer = Err (refusal buffer_too_short (pos (length unit))); left = scratch }
   unfolding unescaped
   too_short h l = placed-short unit (body 0 (drop from unit)) scratch h l
 
   pub done : length unit ≤ limit → length unit ≤ length scratch
-      → unescaped unit from scratch ≡ record { answer = Body.Of (length (body 0 (drop from unit))); left = start_with (body 0 (drop from unit)) scratch }
+      → unescaped unit from scratch ≡ record { answer = Ok (length (body 0 (drop from unit))); left = start_with (body 0 (drop from unit)) scratch }
   unfolding unescaped
   done h l = placed-done unit (body 0 (drop from unit)) scratch h l
 

@@ -1,7 +1,8 @@
 -- A unit's body with its emulation prevention bytes dropped (docs/RULES.md, 'Units and bodies'; H.264, 7.3.1).
 use Rattle.std.specs.Prelude.{ℕ, suc, List, [], ◌∷◌, ◌++◌, Bool, ◌&&◌, leb, eqb, pos, length, drop}
 use Rattle.bits.specs.Refusals.{pick, refusal, buffer_too_short, too_large, limit}
-use Rattle.escape.specs.declared.escape.Body.{Body}
+use Rattle.std.specs.Prelude.{Result, Ok, Err}
+use Rattle.bits.specs.declared.refusals.Refusal.{Refusal}
 
 -- the byte a is dropped, where z zero bytes stand right before it, none of them before a dropped byte
 abbrev pub drops : ℕ → ℕ → Bool
@@ -18,7 +19,7 @@ body z (a ∷ r) = pick (drops z a) (body 0 r) (a ∷ body (zeros z a) r)
 
 -- the answer, and scratch at exit
 pub record Unescaped : Type 0 where
-  pub answer : Body
+  pub answer : Result ℕ Refusal
   pub left : List ℕ
 
 -- scratch with s in front and otherwise as it was
@@ -30,9 +31,9 @@ unfoldable pub placed : List ℕ → List ℕ → List ℕ → Unescaped
 placed unit b scratch =
     pick (leb (length unit) limit)
     (pick (leb (length unit) (length scratch))
-    (record { answer = Body.Of (length b); left = start_with b scratch })
-    (record { answer = Body.Refused (refusal buffer_too_short (pos (length unit))); left = scratch }))
-    (record { answer = Body.Refused (refusal too_large (pos 0)); left = scratch })
+    (record { answer = Ok (length b); left = start_with b scratch })
+    (record { answer = Err (refusal buffer_too_short (pos (length unit))); left = scratch }))
+    (record { answer = Err (refusal too_large (pos 0)); left = scratch })
 
 -- the body of a unit's bytes from `from` on
 unfoldable pub unescaped : List ℕ → ℕ → List ℕ → Unescaped

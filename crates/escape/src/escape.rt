@@ -7,17 +7,9 @@ use bits::copy::copy_in;
 use bits::refusals::{BUFFER_TOO_SHORT, LIMIT, Refusal, TOO_LARGE, refuse};
 use scan::scan::seek;
 
-// What unescaping answers.
-#[derive(Clone, Copy)]
-pub enum Body {
-    // how many bytes the body has
-    Of(usize),
-    Refused(Refusal),
-}
-
 // Puts what stands in `unit` from `from` on, unescaped, at the front of `scratch`, which needs as many bytes as the unit has. What stands before `from`, a first
 // byte or an extension, does not count as zeros before a dropped 03. A refused call changes nothing.
-pub fn unescape(unit: &[u8], from: usize, scratch: &mut [u8]) -> Body
+pub fn unescape(unit: &[u8], from: usize, scratch: &mut [u8]) -> Result<usize, Refusal>
     ensures value { result ≡ (unescaped unit.now from scratch.old).answer }
     ensures scratch_after { scratch.new ≡ (unescaped unit.now from scratch.old).left }
 {
@@ -25,18 +17,23 @@ pub fn unescape(unit: &[u8], from: usize, scratch: &mut [u8]) -> Body
 }
 
 // The same for a caller who knows that no 00 00 03 begins before `known`: bytes before it are copied as they stand, and not searched again.
-pub fn unescape_known(unit: &[u8], from: usize, known: usize, scratch: &mut [u8]) -> Body
+pub fn unescape_known(
+    unit: &[u8],
+    from: usize,
+    known: usize,
+    scratch: &mut [u8],
+) -> Result<usize, Refusal>
     ensures value { result ≡ (unescaped_known unit.now from known scratch.old).answer }
     ensures scratch_after { scratch.new ≡ (unescaped_known unit.now from known scratch.old).left }
 {
     let n = unit.len();
     if LIMIT < n {
-        return Body::Refused(refuse(TOO_LARGE, 0));
+        return Err(refuse(TOO_LARGE, 0));
     }
     if scratch.len() < n {
-        return Body::Refused(refuse(BUFFER_TOO_SHORT, n as i64));
+        return Err(refuse(BUFFER_TOO_SHORT, n as i64));
     }
-    Body::Of(copy_kept(unit, from, known, scratch))
+    Ok(copy_kept(unit, from, known, scratch))
 }
 
 // The later of two places.

@@ -1,9 +1,11 @@
 -- What converting answers, as a plain struct.
 use Rattle.std.specs.Prelude.{pos}
-use Rattle.framed.specs.declared.convert.Converted.{Converted}
 use Rattle.exports.specs.declared.converts.ConvertedOut.{ConvertedOut}
+use Rattle.std.specs.Prelude.{Result, Ok, Err}
+use Rattle.bits.specs.declared.refusals.Refusal.{Refusal}
+use Rattle.std.specs.Prelude.{ℕ}
 
 -- how many bytes the result has, or number and value of the refusal
-unfoldable pub converted_out : Converted → ConvertedOut
-converted_out (Converted.Of n) = record { number = 0; value = pos 0; bytes = n }
-converted_out (Converted.Refused r) = record { number = r.number; value = r.value; bytes = 0 }
+unfoldable pub converted_out : Result ℕ Refusal → ConvertedOut
+converted_out (Ok n) = record { number = 0; value = pos 0; bytes = n }
+converted_out (Err r) = record { number = r.number; value = r.value; bytes = 0 }

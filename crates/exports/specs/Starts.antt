@@ -1,8 +1,7 @@
 -- What a unit starts with, as plain structs.
 use Rattle.std.specs.Prelude.{ℕ, false, pos}
 use Rattle.nal.specs.declared.unit_type.UnitType.{UnitType}
-use Rattle.nal.specs.declared.unit_type.UnitTypeForId.{UnitTypeForId}
-use Rattle.nal.specs.declared.header.NalHeaderRead.{NalHeaderRead}
+use Rattle.nal.specs.declared.unit_type.UnitTypeError.{UnitTypeError}
 use Rattle.nal.specs.declared.extension.NalHeaderSvcExtension.{NalHeaderSvcExtension}
 use Rattle.nal.specs.declared.extension.NalHeaderMvcExtension.{NalHeaderMvcExtension}
 use Rattle.nal.specs.Header.{nal_ref_idc}
@@ -14,12 +13,15 @@ use Rattle.exports.specs.declared.starts.NalHeaderOut.{NalHeaderOut}
 use Rattle.exports.specs.declared.starts.SvcExtensionOut.{SvcExtensionOut}
 use Rattle.exports.specs.declared.starts.MvcExtensionOut.{MvcExtensionOut}
 use Rattle.exports.specs.declared.starts.ExtensionOut.{ExtensionOut}
+use Rattle.std.specs.Prelude.{Result, Ok, Err}
+use Rattle.bits.specs.declared.refusals.Refusal.{Refusal}
+use Rattle.nal.specs.declared.header.NalHeader.{NalHeader}
 
 -- a first byte's fields, or its refusal
-unfoldable pub header_out : NalHeaderRead → NalHeaderOut
-header_out (NalHeaderRead.Got h) =
+unfoldable pub header_out : Result NalHeader Refusal → NalHeaderOut
+header_out (Ok h) =
     record { number = 0; nal_ref_idc = nal_ref_idc h; nal_unit_type = type_in h; has_extension = has_extension (type_in h); value = pos 0 }
-header_out (NalHeaderRead.Refused r) = record { number = r.number; nal_ref_idc = 0; nal_unit_type = 0; has_extension = false; value = r.value }
+header_out (Err r) = record { number = r.number; nal_ref_idc = 0; nal_unit_type = 0; has_extension = false; value = r.value }
 
 -- 1, a type that has a name; 2, unspecified; 3, reserved
 abbrev pub kind_of : UnitType → ℕ
@@ -46,9 +48,9 @@ kind_of UnitType.SliceExtensionViewComponent = 1
 kind_of (UnitType.Reserved id) = 3
 
 -- 0, no type
-abbrev pub kind_for : UnitTypeForId → ℕ
-kind_for (UnitTypeForId.«Type» t) = kind_of t
-kind_for (UnitTypeForId.ValueOutOfRange id) = 0
+abbrev pub kind_for : Result UnitType UnitTypeError → ℕ
+kind_for (Ok t) = kind_of t
+kind_for (Err e) = 0
 
 unfoldable pub svc_out : NalHeaderSvcExtension → SvcExtensionOut
 svc_out e =

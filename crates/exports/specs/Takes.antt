@@ -3,13 +3,13 @@ use Rattle.std.specs.Prelude.{ℕ, true, false, List, ℤ, pos}
 use Rattle.table.specs.declared.table.Table.{Table}
 use Rattle.unit.specs.Into.{long_answer}
 use Rattle.exposures.specs.declared.exposure.Exposure.{Exposure}
-use Rattle.exposures.specs.declared.take.Closed.{Closed}
 use Rattle.exposures.specs.declared.slice.Item.{Item}
 use Rattle.exposures.specs.Take.{Taken, take_of}
 use Rattle.exposures.specs.Words.{Words, state_in, words_of}
 use Rattle.stacking.specs.Item.{item_of, held_in}
 use Rattle.exports.specs.declared.takes.ClosedOut.{ClosedOut}
 use Rattle.exports.specs.Listings.{heard}
+use Rattle.std.specs.Prelude.{Option, Some, None}
 
 abbrev pub no_exposure : Exposure
 no_exposure =
@@ -25,9 +25,9 @@ no_exposure =
     }
 
 -- zeros where there is none
-unfoldable pub closed_out : Closed → ClosedOut
-closed_out Closed.Nothing = record { there = false; exposure = no_exposure }
-closed_out (Closed.Exposure e) = record { there = true; exposure = e }
+unfoldable pub closed_out : Option Exposure → ClosedOut
+closed_out None = record { there = false; exposure = no_exposure }
+closed_out (Some e) = record { there = true; exposure = e }
 
 -- a unit's item, by the `answer` of its ReadOut and the words of a slice's fields
 abbrev pub told_item : Table → ℕ → ℕ → ℕ → ℕ → List ℕ → List ℤ → Item

@@ -4,7 +4,7 @@ ghost use Rattle.framed.specs.Convert.{to_start_codes, to_lengths};
 ghost use Rattle.exports.specs.Converts.{converted_out};
 
 use bits::refusals::Refusal;
-use framed::convert::{Converted, to_lengths, to_start_codes};
+use framed::convert::{to_lengths, to_start_codes};
 
 // What converting answers: how many bytes the result has, or the rules' refusal. What the answer does not speak of is zero.
 #[repr(C)]
@@ -15,16 +15,16 @@ pub struct ConvertedOut {
     pub bytes: usize,
 }
 
-fn converted_out(a: Converted) -> ConvertedOut
+fn converted_out(a: Result<usize, Refusal>) -> ConvertedOut
     ensures { result ≡ converted_out a }
 {
     match a {
-        Converted::Of(bytes) => ConvertedOut {
+        Ok(bytes) => ConvertedOut {
             number: 0,
             value: 0,
             bytes,
         },
-        Converted::Refused(why) => ConvertedOut {
+        Err(why) => ConvertedOut {
             number: why.number as u32,
             value: why.value,
             bytes: 0,

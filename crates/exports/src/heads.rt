@@ -4,7 +4,7 @@ ghost use Rattle.unit.specs.Head.{head_of};
 ghost use Rattle.exports.specs.Heads.{head_out, head_heard};
 
 use bits::refusals::{Refusal, refuse};
-use unit::head::{HeadRead, UnitHead, head};
+use unit::head::{UnitHead, head};
 
 // A unit's head. Beside a refusal its fields are zero.
 #[repr(C)]
@@ -16,16 +16,16 @@ pub struct HeadOut {
     pub head: UnitHead,
 }
 
-fn head_out(a: HeadRead) -> HeadOut
+fn head_out(a: Result<UnitHead, Refusal>) -> HeadOut
     ensures { result ≡ head_out a }
 {
     match a {
-        HeadRead::Got(head) => HeadOut {
+        Ok(head) => HeadOut {
             value: 0,
             number: 0,
             head,
         },
-        HeadRead::Refused(why) => HeadOut {
+        Err(why) => HeadOut {
             value: why.value,
             number: why.number,
             head: UnitHead {
@@ -40,14 +40,14 @@ fn head_out(a: HeadRead) -> HeadOut
 }
 
 // What a HeadOut tells.
-pub(crate) fn hear_head(out: HeadOut) -> HeadRead
+pub(crate) fn hear_head(out: HeadOut) -> Result<UnitHead, Refusal>
     ensures { result ≡ head_heard out }
 {
     let head = out.head;
     if out.number == 0 {
-        return HeadRead::Got(head);
+        return Ok(head);
     }
-    HeadRead::Refused(refuse(out.number, out.value))
+    Err(refuse(out.number, out.value))
 }
 
 // What a unit's first bytes say. `tuz_body` takes the answer's `head`, and reads the body.

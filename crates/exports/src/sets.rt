@@ -4,11 +4,10 @@ ghost use Rattle.table.specs.Tables.{sequence_in, sequence_at, picture_in, pictu
 ghost use Rattle.syntax.specs.Context.{no_sequence, no_picture};
 ghost use Rattle.exports.specs.Sets.{sequence_out, picture_out, changed_out};
 
+use bits::refusals::Refusal;
 use table::sets::{Picture, Sequence};
 use table::table::Table;
-use table::words::{
-    Changed, FoundPicture, FoundSequence, picture_in, put_picture_in, put_sequence_in, sequence_in,
-};
+use table::words::{picture_in, put_picture_in, put_sequence_in, sequence_in};
 
 // A sequence set, or none: then `there` is false and every field zero.
 #[repr(C)]
@@ -38,11 +37,11 @@ fn sequence_out(t: &[u32; 224], id: u32) -> SequenceOut
     ensures { result ≡ sequence_out (sequence_in t.now id) }
 {
     match sequence_in(t, id) {
-        FoundSequence::There(sequence) => SequenceOut {
+        Some(sequence) => SequenceOut {
             there: true,
             sequence,
         },
-        FoundSequence::Absent => SequenceOut {
+        None => SequenceOut {
             there: false,
             sequence: no_sequence(),
         },
@@ -69,11 +68,11 @@ fn picture_out(t: &[u32; 2304], id: u32) -> PictureOut
     ensures { result ≡ picture_out (picture_in t.now id) }
 {
     match picture_in(t, id) {
-        FoundPicture::There(picture, _) => PictureOut {
+        Some((picture, _)) => PictureOut {
             there: true,
             picture,
         },
-        FoundPicture::Absent => PictureOut {
+        None => PictureOut {
             there: false,
             picture: no_picture(),
         },
@@ -99,15 +98,15 @@ pub(crate) fn no_picture() -> Picture
     }
 }
 
-fn changed_out(c: Changed) -> ChangedOut
+fn changed_out(c: Result<(), Refusal>) -> ChangedOut
     ensures { result ≡ changed_out c }
 {
     match c {
-        Changed::Refused(why) => ChangedOut {
+        Err(why) => ChangedOut {
             number: why.number as u32,
             value: why.value,
         },
-        Changed::Done => ChangedOut {
+        Ok(()) => ChangedOut {
             number: 0,
             value: 0,
         },

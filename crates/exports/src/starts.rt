@@ -4,9 +4,10 @@ ghost use Rattle.nal.specs.UnitType.{for_id};
 ghost use Rattle.nal.specs.Header.{header_from};
 ghost use Rattle.exports.specs.Starts.{header_out, kind_of, kind_for, svc_out, mvc_out, extension_out};
 
+use bits::refusals::Refusal;
 use nal::extension::{NalHeaderExtension, NalHeaderMvcExtension, NalHeaderSvcExtension};
-use nal::header::{NalHeader, NalHeaderRead};
-use nal::unit_type::{UnitType, UnitTypeForId};
+use nal::header::NalHeader;
+use nal::unit_type::UnitType;
 use unit::begin::has_extension;
 
 // A first byte. Beside a refusal the other fields are zero.
@@ -60,11 +61,11 @@ pub struct ExtensionOut {
     pub mvc: MvcExtensionOut,
 }
 
-fn header_out(a: NalHeaderRead) -> NalHeaderOut
+fn header_out(a: Result<NalHeader, Refusal>) -> NalHeaderOut
     ensures { result ≡ header_out a }
 {
     match a {
-        NalHeaderRead::Got(h) => {
+        Ok(h) => {
             let t = h.type_id();
             NalHeaderOut {
                 number: 0,
@@ -74,7 +75,7 @@ fn header_out(a: NalHeaderRead) -> NalHeaderOut
                 value: 0,
             }
         }
-        NalHeaderRead::Refused(why) => NalHeaderOut {
+        Err(why) => NalHeaderOut {
             number: why.number as u32,
             nal_ref_idc: 0,
             nal_unit_type: 0,
@@ -108,8 +109,8 @@ pub extern "C" fn tuz_unit_type(id: u8) -> u32
     ensures { result ≡ kind_for (for_id id) }
 {
     match UnitType::for_id(id) {
-        UnitTypeForId::Type(t) => kind(t),
-        UnitTypeForId::ValueOutOfRange(_) => 0,
+        Ok(t) => kind(t),
+        Err(_) => 0,
     }
 }
 

@@ -8,7 +8,7 @@ ghost use Rattle.exports.specs.Takes.{no_exposure, closed_out, taken_out};
 use crate::listings::hear;
 use exposures::counts::Counts;
 use exposures::exposure::Exposure;
-use exposures::take::{Closed, counts, finish, start, take};
+use exposures::take::{counts, finish, start, take};
 use stacking::item::item_of;
 
 // An exposure that is closed, or none: then `there` is false and every field zero.
@@ -34,15 +34,15 @@ fn no_exposure() -> Exposure
     }
 }
 
-fn closed_out(c: Closed) -> ClosedOut
+fn closed_out(c: Option<Exposure>) -> ClosedOut
     ensures { result ≡ closed_out c }
 {
     match c {
-        Closed::Nothing => ClosedOut {
+        None => ClosedOut {
             there: false,
             exposure: no_exposure(),
         },
-        Closed::Exposure(exposure) => ClosedOut {
+        Some(exposure) => ClosedOut {
             there: true,
             exposure,
         },

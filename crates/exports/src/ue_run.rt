@@ -3,7 +3,7 @@ ghost use Rattle.std.specs.Prelude.{◌≡◌};
 ghost use Rattle.bits.specs.Bits.{bits_of};
 ghost use Rattle.exports.specs.Runs.{ue_run, packed};
 
-use bits::read::{Cursor, Read};
+use bits::read::Cursor;
 
 // Reads up to n codes ue(v), one after the other from place 0 on: how many there are before the first refusal, times 2^32, plus the sum of their values modulo 2^32.
 #[unsafe(no_mangle)]
@@ -14,7 +14,7 @@ pub extern "C" fn tuz_ue_run(s: &[u8], n: u32) -> u64
     let mut sum: u32 = 0;
     let mut i: u32 = 0;
     while i < n {
-        let Read::Got(v, next) = c.ue(s) else {
+        let Ok((v, next)) = c.ue(s) else {
             return pack(i, sum);
         };
         sum = std::num::wrapping_add_u32(sum, v);

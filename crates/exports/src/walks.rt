@@ -7,7 +7,8 @@ ghost use Rattle.exports.specs.Walks.{came, walk_told, walk_out};
 
 use crate::units::{ReadOut, tell};
 use bits::refusals::Refusal;
-use unit::into::ShortAnswer;
+use header::slice::Words;
+use unit::into::{AllWords, ShortAnswer};
 use walk::walk::{Step, next_step, walk_into};
 
 // A step of the walk. What it does not speak of is zero.
@@ -100,29 +101,38 @@ pub extern "C" fn tuz_next_unit(recording: &[u8], from: usize) -> StepOut
 // One step of the walk from a place on, by the sets in a table's two arrays. Scratch needs as many bytes as the longest unit has. A set that is read goes into the
 // arrays. Words are written as by `tuz_body`; where there is no unit, none is.
 #[unsafe(no_mangle)]
-pub extern "C" fn tuz_walk(
+pub extern "C" fn tuz_walk<'a>(
     sequences: &mut [u32; 224],
     pictures: &mut [u32; 2304],
     recording: &[u8],
     from: usize,
     scratch: &mut [u8],
-    numbers: &mut [u32; 57],
-    signed: &mut [i32; 7],
-    l0: &mut [u32; 198],
-    l1: &mut [u32; 198],
-    marking: &mut [u32; 198],
-    w0: &mut [i32; 256],
-    w1: &mut [i32; 256],
-    base: &mut [u32; 198],
+    numbers: &'a mut [u32; 57],
+    signed: &'a mut [i32; 7],
+    l0: &'a mut [u32; 198],
+    l1: &'a mut [u32; 198],
+    marking: &'a mut [u32; 198],
+    w0: &'a mut [i32; 256],
+    w1: &'a mut [i32; 256],
+    base: &'a mut [u32; 198],
 ) -> WalkOut
     ensures value { (result ≡ walk_out (walked (table_of sequences.old pictures.old) recording.now from scratch.old).walked) × (scratch.new ≡ (walked (table_of sequences.old pictures.old) recording.now from scratch.old).left) }
     ensures table { table_of sequences.new pictures.new ≡ (walked (table_of sequences.old pictures.old) recording.now from scratch.old).table }
     ensures words { (lent_words numbers signed l0 l1 marking w0 w1 base).exit ≡ words_after (walked (table_of sequences.old pictures.old) recording.now from scratch.old).walked.read (lent_words numbers signed l0 l1 marking w0 w1 base).entry }
 {
-    let w = walk_into(
-        sequences, pictures, recording, from, scratch, numbers, signed, l0, l1, marking, w0, w1,
+    let mut words = AllWords {
+        header: Words {
+            numbers,
+            signed,
+            l0,
+            l1,
+            marking,
+            w0,
+            w1,
+        },
         base,
-    );
+    };
+    let w = walk_into(sequences, pictures, recording, from, scratch, &mut words);
     let step = w.step;
     let answer = w.answer;
     walk_told(step, answer)

@@ -4,8 +4,9 @@ ghost use Rattle.header.specs.Lead.{table_of};
 ghost use Rattle.writer.specs.Write.{held_words, write_words};
 ghost use Rattle.exports.specs.Writes.{wrote_out};
 
+use bits::refusals::Refusal;
 use writer::given::ExtensionGiven;
-use writer::write::{HeaderWrote, write_words_in};
+use writer::write::write_words_in;
 
 // What writing a header answers: its length in bits, or the rules' refusal. What the answer does not speak of is zero.
 #[repr(C)]
@@ -16,16 +17,16 @@ pub struct WroteOut {
     pub bits: usize,
 }
 
-fn wrote_out(a: HeaderWrote) -> WroteOut
+fn wrote_out(a: Result<usize, Refusal>) -> WroteOut
     ensures { result ≡ wrote_out a }
 {
     match a {
-        HeaderWrote::Bits(bits) => WroteOut {
+        Ok(bits) => WroteOut {
             number: 0,
             value: 0,
             bits,
         },
-        HeaderWrote::Refused(why) => WroteOut {
+        Err(why) => WroteOut {
             number: why.number as u32,
             value: why.value,
             bits: 0,

@@ -11,12 +11,12 @@ use Rattle.exposures.specs.declared.slice.Slice.{Slice}
 use Rattle.exposures.specs.declared.slice.Kind.{Kind}
 use Rattle.exposures.specs.declared.slice.Item.{Item}
 use Rattle.exposures.specs.declared.counts.Counts.{Counts}
-use Rattle.exposures.specs.declared.take.Closed.{Closed}
 use Rattle.exposures.specs.Compare.{differ, gap_after}
 use Rattle.exposures.specs.Exposure.{held, lesser, greater, plus, exposure_of, one_slice, more}
 use Rattle.exposures.specs.Pictures.{slices_of, same, those, Picture, rest_of, last_in, joined, cut, refused_in, gap_to, exposures_from, exposures}
 use Rattle.exposures.specs.Take.{State, no_slice, no_counts, start, counted, still, opened, slice_taken, refused_with, unit_taken, take_of, finish_of, run}
 use Rattle.exposures.proofs.Lists.{slices-append, those-append, over-append, last-append, held-suc}
+use Rattle.std.specs.Prelude.{Some}
 
 -- ---- a picture so far
 
@@ -79,7 +79,7 @@ module _ (gap : Bool) (before : ℕ) (p : Picture) (c : Counts) where
       → take_of (during gap before p c) (Item.Slice a)
       ≡ record {
         state = during (gap_after p.first.frame_num a) (refused_in p.behind) (alone a) (counted c (Item.Slice a));
-        closed = Closed.Exposure (exposure_of gap before p.first (rest_of p));
+        closed = Some (exposure_of gap before p.first (rest_of p));
       }
   unfolding slice_taken opened held exposure_of one_slice
   new a h = rw h

@@ -11,7 +11,6 @@ use Rattle.bits.proofs.Results.{cases}
 use Rattle.exposures.specs.declared.slice.Slice.{Slice}
 use Rattle.exposures.specs.declared.slice.Item.{Item}
 use Rattle.exposures.specs.declared.exposure.Exposure.{Exposure}
-use Rattle.exposures.specs.declared.take.Closed.{Closed}
 use Rattle.exposures.specs.Compare.{differ, gap_after}
 use Rattle.exposures.specs.Exposure.{exposure_of}
 use Rattle.exposures.specs.Pictures.{Picture, last_of, last_in, cut, refused_in, gap_to, exposures_from, exposures}
@@ -21,12 +20,13 @@ use Rattle.exposures.proofs.Grouped.{slices_in_all, pictures-partition}
 use Rattle.exposures.proofs.Runs.{grown, onto, along, from_start, taken-exposures}
 use Rattle.exposures.proofs.Moved.{drop-map}
 use Rattle.exposures.proofs.Came.{same-frame, Came, none, some, came, closed_in, run-append}
+use Rattle.std.specs.Prelude.{Option, Some, None}
 
 -- ---- what begins in S
 
-said-short : (c : Closed) → length (said c) ≤ 1
-said-short Closed.Nothing = omega arith
-said-short (Closed.Exposure e) = omega arith
+said-short : (c : Option Exposure) → length (said c) ≤ 1
+said-short None = omega arith
+said-short (Some e) = omega arith
 
 begun-by : (X S : List Item) → begun_in X S ≡ drop (length (said (finish_of (state_after start X)))) (run (state_after start X) S)
 begun-by X S =

@@ -6,10 +6,10 @@ use Rattle.exposures.specs.declared.slice.Kind.{Kind}
 use Rattle.exposures.specs.declared.slice.Item.{Item}
 use Rattle.exposures.specs.declared.counts.Counts.{Counts}
 use Rattle.exposures.specs.declared.exposure.Exposure.{Exposure}
-use Rattle.exposures.specs.declared.take.Closed.{Closed}
 use Rattle.exposures.specs.Compare.{differ, gap_after}
 use Rattle.exposures.specs.Exposure.{held, one_slice, more}
 use Rattle.exposures.specs.Pictures.{same}
+use Rattle.std.specs.Prelude.{Option, Some, None}
 
 pub record State : Type 0 where
   -- a picture has begun: its exposure so far, and its last slice
@@ -23,7 +23,7 @@ pub record State : Type 0 where
 -- the state after a unit, and the exposure that the unit closed
 pub record Taken : Type 0 where
   pub state : State
-  pub closed : Closed
+  pub closed : Option Exposure
 
 -- ---- at the start
 
@@ -69,7 +69,7 @@ counted c (Item.Unit k) = unit_counted c k
 
 -- no exposure is closed
 abbrev pub still : State → Taken
-still st = record { state = st; closed = Closed.Nothing }
+still st = record { state = st; closed = None }
 
 -- a picture begins; b units were refused since the first slice of the one before
 unfoldable pub opened : Slice → Bool → ℕ → Counts → State
@@ -80,7 +80,7 @@ unfoldable pub slice_taken : State → Slice → Counts → Taken
 slice_taken st s c =
     pick st.begun
     (pick (differ st.last s)
-    (record { state = opened s (gap_after st.exposure.frame_num s) st.refused_since c; closed = Closed.Exposure st.exposure })
+    (record { state = opened s (gap_after st.exposure.frame_num s) st.refused_since c; closed = Some st.exposure })
     (still (record { begun = true; exposure = more st.exposure s; last = s; refused_since = st.refused_since; counts = c })))
     (still (opened s false st.refused_since c))
 
@@ -98,15 +98,15 @@ take_of st (Item.Unit k) = unit_taken st k (counted st.counts (Item.Unit k))
 
 -- ---- at the end
 
-unfoldable pub finish_of : State → Closed
-finish_of st = pick st.begun (Closed.Exposure st.exposure) Closed.Nothing
+unfoldable pub finish_of : State → Option Exposure
+finish_of st = pick st.begun (Some st.exposure) None
 
 -- ---- units one after another
 
 -- the exposure that is closed, if one is
-abbrev pub said : Closed → List Exposure
-said Closed.Nothing = []
-said (Closed.Exposure e) = e ∷ []
+abbrev pub said : Option Exposure → List Exposure
+said None = []
+said (Some e) = e ∷ []
 
 -- all exposures that are closed from a state on, with that of the end
 abbrev pub run : State → List Item → List Exposure

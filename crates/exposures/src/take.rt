@@ -10,13 +10,6 @@ use crate::exposure::{Exposure, first_slice, next_slice, one_more};
 use crate::slice::{Item, Kind, Slice};
 use crate::words::{exposure_in, last_in, lay};
 
-// An exposure to which nothing more comes, or none.
-#[derive(Clone, Copy)]
-pub enum Closed {
-    Nothing,
-    Exposure(Exposure),
-}
-
 // What stands for the last slice where none was taken.
 fn no_slice() -> Slice
     ensures { result ≡ no_slice }
@@ -82,14 +75,14 @@ fn take_slice(
     sizes: &mut [usize; 11],
     numbers: &mut [u32; 13],
     levels: &mut [i64; 7],
-) -> Closed
+) -> Option<Exposure>
     ensures { (result ≡ (slice_taken (state_in (lent sizes numbers levels).entry) s c).closed) × ((lent sizes numbers levels).exit ≡ words_of (slice_taken (state_in (lent sizes numbers levels).entry) s c).state) }
 {
     let refused = sizes[4];
     if numbers[0] == 0 {
         let opened = first_slice(s, false, refused);
         lay(true, opened, s, 0, c, sizes, numbers, levels);
-        return Closed::Nothing;
+        return None;
     }
     let last = last_in(sizes, numbers, levels);
     if is_first(last, s) {
@@ -97,12 +90,12 @@ fn take_slice(
         let gap = is_gap(e.frame_num, s);
         let opened = first_slice(s, gap, refused);
         lay(true, opened, s, 0, c, sizes, numbers, levels);
-        return Closed::Exposure(e);
+        return Some(e);
     }
     let e = exposure_in(sizes, numbers, levels);
     let more = next_slice(e, s);
     lay(true, more, s, refused, c, sizes, numbers, levels);
-    Closed::Nothing
+    None
 }
 
 // Refused units since a picture's first slice, with a unit more.
@@ -140,7 +133,7 @@ pub fn take(
     sizes: &mut [usize; 11],
     numbers: &mut [u32; 13],
     levels: &mut [i64; 7],
-) -> Closed
+) -> Option<Exposure>
     ensures { (result ≡ (take_of (state_in (lent sizes numbers levels).entry) item).closed) × ((lent sizes numbers levels).exit ≡ words_of (take_of (state_in (lent sizes numbers levels).entry) item).state) }
 {
     let c = count(counts(sizes), item);
@@ -148,18 +141,22 @@ pub fn take(
         Item::Slice(s) => take_slice(s, c, sizes, numbers, levels),
         Item::Unit(k) => {
             take_unit(k, c, sizes, numbers, levels);
-            Closed::Nothing
+            None
         }
     }
 }
 
 // The last exposure: nothing more is taken.
-pub fn finish<'a>(sizes: &'a [usize; 11], numbers: &'a [u32; 13], levels: &'a [i64; 7]) -> Closed
+pub fn finish<'a>(
+    sizes: &'a [usize; 11],
+    numbers: &'a [u32; 13],
+    levels: &'a [i64; 7],
+) -> Option<Exposure>
     ensures { result ≡ finish_of (state_in (words sizes.now numbers.now levels.now)) }
 {
     if numbers[0] == 0 {
-        return Closed::Nothing;
+        return None;
     }
     let e = exposure_in(sizes, numbers, levels);
-    Closed::Exposure(e)
+    Some(e)
 }

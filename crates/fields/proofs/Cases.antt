@@ -12,17 +12,18 @@ use Rattle.bits.specs.Refusals.{Res, got, no, bind, refusal_at}
 use Rattle.bits.specs.Bits.{Bits, digits}
 use Rattle.bits.specs.Codes.{width_of, fixed_at}
 use Rattle.bits.proofs.Results.{bind-bind, bind-got, under, chosen, cases}
-use Rattle.fmt.specs.Fmt.{Fmt, shaped, test, Marked, when}
+use Rattle.fmt.specs.Fmt.{Fmt, shaped, test, when}
+use Rattle.fmt.specs.Fmt as fmt
 use Rattle.fmt.specs.Leaves.{flag, u}
 use Rattle.fmt.proofs.Turns.{test-passes, test-refuses}
 use Rattle.syntax.specs.Marks.{is_zero, number_if, signed_if, flag_if, given}
-use Rattle.syntax.specs.declared.marks.MarkedNumber.{MarkedNumber}
 use Rattle.syntax.specs.Absent.{no_number, no_signed, no_flag}
-use Rattle.fields.specs.Marked.{marked_number, marked_signed, marked_flag}
+use Rattle.fields.specs.Marked.{marked}
+use Rattle.syntax.specs.declared.marks.Marked.{Marked}
 
 -- ---- there only if b: what was read, in the record's shape; or the zero, and the place stays
 
-module _ {A B : Type 0} (to : Marked A → B) (from : B → Marked A) (ok : B → Bool) (b : Bool) (z : A) (isz : A → Bool) (F : Fmt A) (s : Bits) (at : ℕ) where
+module _ {A B : Type 0} (to : fmt.Marked A → B) (from : B → fmt.Marked A) (ok : B → Bool) (b : Bool) (z : A) (isz : A → Bool) (F : Fmt A) (s : Bits) (at : ℕ) where
   shaped-there : (m : Res A) → b ≡ true → m ≡ F.read s at
       → bind m (λ a e. got (to (record { there = true; value = a })) e) ≡ (shaped to from ok (when b z isz F)).read s at
   unfolding shaped when
@@ -33,7 +34,7 @@ module _ {A B : Type 0} (to : Marked A → B) (from : B → Marked A) (ok : B �
   shaped-absent t = rw t
 
 module _ (b : Bool) (F : Fmt ℕ) (s : Bits) (at : ℕ) where
-  pub number-there : (m : Res ℕ) → b ≡ true → m ≡ F.read s at → marked_number m ≡ (number_if b F).read s at
+  pub number-there : (m : Res ℕ) → b ≡ true → m ≡ F.read s at → marked m ≡ (number_if b F).read s at
   unfolding number_if
   number-there = shaped-there _ _ _ b _ _ F s at
 
@@ -42,7 +43,7 @@ module _ (b : Bool) (F : Fmt ℕ) (s : Bits) (at : ℕ) where
   number-absent = shaped-absent _ _ _ b _ _ F s at
 
 module _ (b : Bool) (F : Fmt ℤ) (s : Bits) (at : ℕ) where
-  pub signed-there : (m : Res ℤ) → b ≡ true → m ≡ F.read s at → marked_signed m ≡ (signed_if b F).read s at
+  pub signed-there : (m : Res ℤ) → b ≡ true → m ≡ F.read s at → marked m ≡ (signed_if b F).read s at
   unfolding signed_if
   signed-there = shaped-there _ _ _ b _ _ F s at
 
@@ -51,7 +52,7 @@ module _ (b : Bool) (F : Fmt ℤ) (s : Bits) (at : ℕ) where
   signed-absent = shaped-absent _ _ _ b _ _ F s at
 
 module _ (b : Bool) (s : Bits) (at : ℕ) where
-  pub flag-there : (m : Res Bool) → b ≡ true → m ≡ flag.read s at → marked_flag m ≡ (flag_if b).read s at
+  pub flag-there : (m : Res Bool) → b ≡ true → m ≡ flag.read s at → marked m ≡ (flag_if b).read s at
   unfolding flag_if
   flag-there = shaped-there _ _ _ b _ _ flag s at
 
@@ -74,18 +75,19 @@ pub when-number : (b : Bool) (F : Fmt ℕ) (s : Bits) (at : ℕ)
 unfolding number_if shaped
 when-number b F s at = rw bind-bind (sym (bind-got ((when b 0 is_zero F).read s at)))
 
--- ---- tested, where reading F answered m: no value, a value that passes, and one that does not
+-- ---- tested, where reading F answered: no value, a value that passes, and one that does not
 
-module _ {A : Type 0} (ok : A → Bool) (n : ℕ) (value : A → ℤ) (F : Fmt A) (s : Bits) (at : ℕ) {m : Res A} (h : m ≡ F.read s at) where
-  pub test-none : {r : Refusal} → m ≡ no r → m ≡ (test ok n value F).read s at
+module _ {A : Type 0} (ok : A → Bool) (n : ℕ) (value : A → ℤ) (F : Fmt A) (s : Bits) (at : ℕ) where
+  pub test-none : {r : Refusal} → no r ≡ F.read s at → no r ≡ (test ok n value F).read s at
   unfolding test
-  test-none k = rw (← h, k)
+  test-none h = rw (← h)
 
-  pub test-pass : {a : A} {e : ℕ} → m ≡ got a e → ok a ≡ true → got a e ≡ (test ok n value F).read s at
-  test-pass {a} {e} k t = sym (test-passes ok n value F s at a e (sym h ∙ k) t)
+  module _ {a : A} {e : ℕ} (h : got a e ≡ F.read s at) where
+    pub test-pass : ok a ≡ true → got a e ≡ (test ok n value F).read s at
+    test-pass t = sym (test-passes ok n value F s at a e (sym h) t)
 
-  pub test-fail : {a : A} {e : ℕ} {r : Refusal} → m ≡ got a e → ok a ≡ false → r ≡ refusal_at n (value a) at → no r ≡ (test ok n value F).read s at
-  test-fail {a} {e} k t q = rw q (sym (test-refuses ok n value F s at a e (sym h ∙ k) t))
+    pub test-fail : {r : Refusal} → ok a ≡ false → r ≡ refusal_at n (value a) at → no r ≡ (test ok n value F).read s at
+    test-fail t q = rw q (sym (test-refuses ok n value F s at a e (sym h) t))
 
 -- ---- what passed a test
 
@@ -94,7 +96,7 @@ unfolding test
 test-passed ok n value F s at h = under (F.read s at) _ h (λ a d ha h₁. let w = chosen (ok a) a _ d _ _ h₁ in subst (λ x. T (ok x)) w.1 w.0)
 
 -- with its mark: where zero passes, the value does
-module _ (ok : ℕ → Bool) (n : ℕ) (value : ℕ → ℤ) (F : Fmt ℕ) (s : Bits) (at : ℕ) (z : T (ok 0)) {m : MarkedNumber} {e : ℕ} where
+module _ (ok : ℕ → Bool) (n : ℕ) (value : ℕ → ℤ) (F : Fmt ℕ) (s : Bits) (at : ℕ) (z : T (ok 0)) {m : Marked ℕ} {e : ℕ} where
   pub number_passed : (b : Bool) → (number_if b (test ok n value F)).read s at ≡ got m e → T (ok m.value)
   number_passed true h =
       under ((test ok n value F).read s at) _ (number-there true _ s at _ refl refl ∙ h)

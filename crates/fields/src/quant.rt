@@ -5,13 +5,13 @@ ghost use Rattle.fmt.specs.Fmt.{test};
 ghost use Rattle.fmt.specs.Leaves.{se};
 ghost use Rattle.syntax.specs.Context.{level, qp_fits, qs_fits};
 ghost use Rattle.syntax.specs.Marks.{signed_if};
-ghost use Rattle.fields.specs.Steps.{as_signed, as_given};
+ghost use Rattle.bits.specs.Answers.{as_read};
 
-use crate::signed::{absent_signed, code, marked_signed};
-use crate::step::{SignedGiven, SignedStep};
-use bits::read::Cursor;
+use crate::marks::{absent, marked};
+use bits::read::{Cursor, Read};
 use bits::refusals::{QP_RANGE, QS_RANGE, refuse_at};
 use syntax::context::Context;
+use syntax::marks::Marked;
 use table::sets::within_signed;
 
 // QP or QS: 26 + init + d
@@ -46,41 +46,35 @@ pub fn qs_fits(x: Context, d: i32) -> bool
 }
 
 // slice_qp_delta
-pub fn qp_delta(s: &[u8], c: Cursor, x: Context) -> SignedGiven
-    ensures { as_given result ≡ (test (qp_fits x) 16 (λ d. d) se).read (bits_of s.now) c.at }
+pub fn qp_delta(s: &[u8], c: Cursor, x: Context) -> Read<i32>
+    ensures { as_read result ≡ (test (qp_fits x) 16 (λ d. d) se).read (bits_of s.now) c.at }
 {
-    let a = code(s, c);
-    let SignedGiven::Got(v, next) = a else {
-        return a;
-    };
-    if qp_fits(x, v.value) {
-        SignedGiven::Got(v, next)
+    let (v, next) = c.se(s)?;
+    if qp_fits(x, v) {
+        Ok((v, next))
     } else {
-        SignedGiven::Refused(refuse_at(QP_RANGE, v.value as i64, c.at))
+        Err(refuse_at(QP_RANGE, v as i64, c.at))
     }
 }
 
-fn qs_delta(s: &[u8], c: Cursor, x: Context) -> SignedGiven
-    ensures { as_given result ≡ (test (qs_fits x) 17 (λ d. d) se).read (bits_of s.now) c.at }
+fn qs_delta(s: &[u8], c: Cursor, x: Context) -> Read<i32>
+    ensures { as_read result ≡ (test (qs_fits x) 17 (λ d. d) se).read (bits_of s.now) c.at }
 {
-    let a = code(s, c);
-    let SignedGiven::Got(v, next) = a else {
-        return a;
-    };
-    if qs_fits(x, v.value) {
-        SignedGiven::Got(v, next)
+    let (v, next) = c.se(s)?;
+    if qs_fits(x, v) {
+        Ok((v, next))
     } else {
-        SignedGiven::Refused(refuse_at(QS_RANGE, v.value as i64, c.at))
+        Err(refuse_at(QS_RANGE, v as i64, c.at))
     }
 }
 
 // slice_qs_delta
-pub fn qs_delta_if(s: &[u8], c: Cursor, there: bool, x: Context) -> SignedStep
-    ensures { as_signed result ≡ (signed_if there (test (qs_fits x) 17 (λ d. d) se)).read (bits_of s.now) c.at }
+pub fn qs_delta_if(s: &[u8], c: Cursor, there: bool, x: Context) -> Read<Marked<i32>>
+    ensures { as_read result ≡ (signed_if there (test (qs_fits x) 17 (λ d. d) se)).read (bits_of s.now) c.at }
 {
     if there {
-        marked_signed(qs_delta(s, c, x))
+        marked(qs_delta(s, c, x))
     } else {
-        absent_signed(c)
+        absent(c, 0)
     }
 }

@@ -1,67 +1,61 @@
 // Reading a field: as it is, tested, or there only under a condition. Each says which format of syntax/specs it reads.
 ghost use Rattle.std.specs.Prelude.{false, not, ◌≡◌, ◌+◌, eqb, leb, pos};
-ghost use Rattle.bits.specs.Answers as bits;
-ghost use Rattle.bits.specs.Answers.{as_read};
 ghost use Rattle.bits.specs.Bits.{Bits, bits_of};
 ghost use Rattle.bits.specs.Codes.{width_of};
 ghost use Rattle.fmt.specs.Fmt.{test};
 ghost use Rattle.fmt.specs.Leaves.{flag, u, ue, se};
 ghost use Rattle.syntax.specs.Marks.{is_zero, is_zero_z, number_if, signed_if, flag_if, given};
 ghost use Rattle.syntax.specs.SliceHeader.{not_scalable, offset_fits};
-ghost use Rattle.fields.specs.Steps.{as_number, as_signed, as_flag, as_given, as_end};
+ghost use Rattle.fields.specs.Steps.{as_end};
+ghost use Rattle.bits.specs.Answers.{as_read};
 
-use crate::flag::{absent_flag, marked_flag};
-use crate::number::{absent, marked};
-use crate::signed::{absent_signed, code, marked_signed};
-use crate::step::{End, FlagStep, NumberStep, Signed, SignedGiven, SignedStep};
-use bits::read::{Cursor, Read, ReadFlag};
-use bits::refusals::{COLOUR_PLANE, SCALABLE, refuse_at};
+use crate::marks::{absent, marked};
+use bits::read::{Cursor, Read};
+use bits::refusals::{COLOUR_PLANE, Refusal, SCALABLE, refuse_at};
 use syntax::context::Context;
+use syntax::marks::Marked;
 use table::sets::within_signed;
 
 // ---- a number
 
 // ue(v), at most `most`: else the refusal with this number and the value.
-pub fn tested(s: &[u8], c: Cursor, most: u32, number: u8) -> Read
+pub fn tested(s: &[u8], c: Cursor, most: u32, number: u8) -> Read<u32>
     ensures { as_read result ≡ (test (λ v. leb v most) number pos ue).read (bits_of s.now) c.at }
 {
-    let a = c.ue(s);
-    let Read::Got(v, next) = a else {
-        return a;
-    };
+    let (v, next) = c.ue(s)?;
     if v <= most {
-        Read::Got(v, next)
+        Ok((v, next))
     } else {
-        Read::Refused(refuse_at(number, v as i64, c.at))
+        Err(refuse_at(number, v as i64, c.at))
     }
 }
 
 // ue(v).
-pub fn number_if(s: &[u8], c: Cursor, there: bool) -> NumberStep
-    ensures { as_number result ≡ (number_if there ue).read (bits_of s.now) c.at }
+pub fn number_if(s: &[u8], c: Cursor, there: bool) -> Read<Marked<u32>>
+    ensures { as_read result ≡ (number_if there ue).read (bits_of s.now) c.at }
 {
-    if there { marked(c.ue(s)) } else { absent(c) }
+    if there { marked(c.ue(s)) } else { absent(c, 0) }
 }
 
 // ue(v), at most `most`.
-pub fn tested_if(s: &[u8], c: Cursor, there: bool, most: u32, number: u8) -> NumberStep
-    ensures { as_number result ≡ (number_if there (test (λ v. leb v most) number pos ue)).read (bits_of s.now) c.at }
+pub fn tested_if(s: &[u8], c: Cursor, there: bool, most: u32, number: u8) -> Read<Marked<u32>>
+    ensures { as_read result ≡ (number_if there (test (λ v. leb v most) number pos ue)).read (bits_of s.now) c.at }
 {
     if there {
         marked(tested(s, c, most, number))
     } else {
-        absent(c)
+        absent(c, 0)
     }
 }
 
 // u(n).
-pub fn bits_if(s: &[u8], c: Cursor, there: bool, n: u32) -> NumberStep
-    ensures { as_number result ≡ (number_if there (u n)).read (bits_of s.now) c.at }
+pub fn bits_if(s: &[u8], c: Cursor, there: bool, n: u32) -> Read<Marked<u32>>
+    ensures { as_read result ≡ (number_if there (u n)).read (bits_of s.now) c.at }
 {
     if there {
         marked(c.bits(s, n))
     } else {
-        absent(c)
+        absent(c, 0)
     }
 }
 
@@ -73,90 +67,75 @@ pub fn four_more(n: u32) -> u32
 }
 
 // u(n + 4): pic_order_cnt_lsb.
-pub fn lsb_if(s: &[u8], c: Cursor, there: bool, n: u32) -> NumberStep
-    ensures { as_number result ≡ (number_if there (u (n + 4))).read (bits_of s.now) c.at }
+pub fn lsb_if(s: &[u8], c: Cursor, there: bool, n: u32) -> Read<Marked<u32>>
+    ensures { as_read result ≡ (number_if there (u (n + 4))).read (bits_of s.now) c.at }
 {
     bits_if(s, c, there, four_more(n))
 }
 
 // u(2) that is not 3.
-fn colour_plane(s: &[u8], c: Cursor) -> Read
+fn colour_plane(s: &[u8], c: Cursor) -> Read<u32>
     ensures { as_read result ≡ (test (λ p. not (eqb p 3)) 11 pos (u 2)).read (bits_of s.now) c.at }
 {
-    let a = c.bits(s, 2);
-    let Read::Got(v, next) = a else {
-        return a;
-    };
+    let (v, next) = c.bits(s, 2)?;
     if v == 3 {
-        Read::Refused(refuse_at(COLOUR_PLANE, v as i64, c.at))
+        Err(refuse_at(COLOUR_PLANE, v as i64, c.at))
     } else {
-        Read::Got(v, next)
+        Ok((v, next))
     }
 }
 
 // colour_plane_id
-pub fn colour_plane_if(s: &[u8], c: Cursor, there: bool) -> NumberStep
-    ensures { as_number result ≡ (number_if there (test (λ p. not (eqb p 3)) 11 pos (u 2))).read (bits_of s.now) c.at }
+pub fn colour_plane_if(s: &[u8], c: Cursor, there: bool) -> Read<Marked<u32>>
+    ensures { as_read result ≡ (number_if there (test (λ p. not (eqb p 3)) 11 pos (u 2))).read (bits_of s.now) c.at }
 {
     if there {
         marked(colour_plane(s, c))
     } else {
-        absent(c)
+        absent(c, 0)
     }
 }
 
 // ue(v), whose absence the record tells elsewhere: zero where it is absent.
-pub fn given(s: &[u8], c: Cursor, there: bool) -> Read
+pub fn given(s: &[u8], c: Cursor, there: bool) -> Read<u32>
     ensures { as_read result ≡ (given there 0 is_zero ue).read (bits_of s.now) c.at }
 {
-    if there { c.ue(s) } else { Read::Got(0, c) }
+    if there { c.ue(s) } else { Ok((0, c)) }
 }
 
 // ---- a flag
 
-pub fn flag_if(s: &[u8], c: Cursor, there: bool) -> FlagStep
-    ensures { as_flag result ≡ (flag_if there).read (bits_of s.now) c.at }
+pub fn flag_if(s: &[u8], c: Cursor, there: bool) -> Read<Marked<bool>>
+    ensures { as_read result ≡ (flag_if there).read (bits_of s.now) c.at }
 {
     if there {
-        marked_flag(c.flag(s))
+        marked(c.flag(s))
     } else {
-        absent_flag(c)
+        absent(c, false)
     }
 }
 
 // One whose absence the record tells elsewhere: clear where it is absent.
-pub fn given_flag(s: &[u8], c: Cursor, there: bool) -> ReadFlag
-    ensures { bits.as_flag result ≡ (given there false not flag).read (bits_of s.now) c.at }
+pub fn given_flag(s: &[u8], c: Cursor, there: bool) -> Read<bool>
+    ensures { as_read result ≡ (given there false not flag).read (bits_of s.now) c.at }
 {
-    if there {
-        c.flag(s)
-    } else {
-        ReadFlag::Got(false, c)
-    }
+    if there { c.flag(s) } else { Ok((false, c)) }
 }
 
 // ---- a signed number
 
 // se(v).
-pub fn signed_if(s: &[u8], c: Cursor, there: bool) -> SignedStep
-    ensures { as_signed result ≡ (signed_if there se).read (bits_of s.now) c.at }
+pub fn signed_if(s: &[u8], c: Cursor, there: bool) -> Read<Marked<i32>>
+    ensures { as_read result ≡ (signed_if there se).read (bits_of s.now) c.at }
 {
-    if there {
-        marked_signed(code(s, c))
-    } else {
-        absent_signed(c)
-    }
+    if there { marked(c.se(s)) } else { absent(c, 0) }
 }
 
 // se(v), whose absence the record tells elsewhere: zero where it is absent.
-pub fn given_signed(s: &[u8], c: Cursor, there: bool) -> SignedGiven
-    ensures { as_given result ≡ (given there (pos 0) is_zero_z se).read (bits_of s.now) c.at }
+pub fn given_signed(s: &[u8], c: Cursor, there: bool) -> Read<i32>
+    ensures { as_read result ≡ (given there (pos 0) is_zero_z se).read (bits_of s.now) c.at }
 {
-    if there {
-        code(s, c)
-    } else {
-        SignedGiven::Got(Signed { value: 0 }, c)
-    }
+    if there { c.se(s) } else { Ok((0, c)) }
 }
 
 // From -6 to 6.
@@ -166,40 +145,37 @@ pub fn offset_fits(d: i32) -> bool
     within_signed(-6, 6, d as i64)
 }
 
-fn offset(s: &[u8], c: Cursor, number: u8) -> SignedGiven
-    ensures { as_given result ≡ (test offset_fits number (λ d. d) se).read (bits_of s.now) c.at }
+fn offset(s: &[u8], c: Cursor, number: u8) -> Read<i32>
+    ensures { as_read result ≡ (test offset_fits number (λ d. d) se).read (bits_of s.now) c.at }
 {
-    let a = code(s, c);
-    let SignedGiven::Got(v, next) = a else {
-        return a;
-    };
-    if offset_fits(v.value) {
-        SignedGiven::Got(v, next)
+    let (v, next) = c.se(s)?;
+    if offset_fits(v) {
+        Ok((v, next))
     } else {
-        SignedGiven::Refused(refuse_at(number, v.value as i64, c.at))
+        Err(refuse_at(number, v as i64, c.at))
     }
 }
 
 // se(v), from -6 to 6: slice_alpha_c0_offset_div2 and slice_beta_offset_div2.
-pub fn offset_if(s: &[u8], c: Cursor, there: bool, number: u8) -> SignedStep
-    ensures { as_signed result ≡ (signed_if there (test offset_fits number (λ d. d) se)).read (bits_of s.now) c.at }
+pub fn offset_if(s: &[u8], c: Cursor, there: bool, number: u8) -> Read<Marked<i32>>
+    ensures { as_read result ≡ (signed_if there (test offset_fits number (λ d. d) se)).read (bits_of s.now) c.at }
 {
     if there {
-        marked_signed(offset(s, c, number))
+        marked(offset(s, c, number))
     } else {
-        absent_signed(c)
+        absent(c, 0)
     }
 }
 
 // ---- no field
 
 // A scalable slice's header goes no further.
-pub fn not_scalable(c: Cursor, x: Context) -> End
+pub fn not_scalable(c: Cursor, x: Context) -> Result<Cursor, Refusal>
     ensures { (s : Bits) → as_end result tt ≡ (not_scalable x).read s c.at }
 {
     if x.kind.svc {
-        End::Refused(refuse_at(SCALABLE, 0, c.at))
+        Err(refuse_at(SCALABLE, 0, c.at))
     } else {
-        End::At(c)
+        Ok(c)
     }
 }

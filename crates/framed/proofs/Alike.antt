@@ -24,12 +24,12 @@ use Rattle.walk.proofs.Reports.{Fair, answer, step, of-run, table-run}
 use Rattle.walk.proofs.Demand as demand
 use Rattle.walk.proofs.Demand.{read-fair}
 use Rattle.walk.proofs.HeadersAlone.{front-fair}
-use Rattle.framed.specs.declared.convert.Converted.{Converted}
 use Rattle.framed.specs.Framed.{four, span_by, framed_at, framed_units, next_framed}
 use Rattle.framed.specs.Walked.{walked_framed, framed_reports, walked_framed_headers, framed_headers_reports, aside}
 use Rattle.framed.specs.Convert.{bytes_of, to_start_codes, to_lengths}
 use Rattle.framed.proofs.There.{from-lengths, from-codes, codes_same, lengths-same}
 use Rattle.framed.proofs.Walks.{complete}
+use Rattle.std.specs.Prelude.{Ok}
 
 -- ---- a unit's length is that of its bytes
 
@@ -96,13 +96,13 @@ module _ {T A : Type 0} (step : T → List ℕ → T) (answer : T → List ℕ �
       record { same = said t us ∙ ap (run step answer t) q ∙ sym (said t vs); ends = left t us ∙ ap (after step answer t) q ∙ sym (left t vs) }
 
   -- of a recording framed by length, and of what it was converted to
-  pub codes-alike : (t : T) (s out : List ℕ) {n : ℕ} → (to_start_codes s out).answer ≡ Converted.Of n → Alike t (units (take n (to_start_codes s out).left)) (framed_units s)
+  pub codes-alike : (t : T) (s out : List ℕ) {n : ℕ} → (to_start_codes s out).answer ≡ Ok n → Alike t (units (take n (to_start_codes s out).left)) (framed_units s)
   codes-alike t s out {n} e =
       let x = take n (to_start_codes s out).left in
       alike t (units x) (framed_units s) (sized-units 0 x) (sized-framed 0 0 s) (codes_same s out e)
 
   -- and the other way round
-  pub lengths-alike : (t : T) (s out : List ℕ) {n : ℕ} → (to_lengths s out).answer ≡ Converted.Of n → Alike t (framed_units (take n (to_lengths s out).left)) (units s)
+  pub lengths-alike : (t : T) (s out : List ℕ) {n : ℕ} → (to_lengths s out).answer ≡ Ok n → Alike t (framed_units (take n (to_lengths s out).left)) (units s)
   lengths-alike t s out {n} e =
       let x = take n (to_lengths s out).left in
       alike t (framed_units x) (units s) (sized-framed 0 0 x) (sized-units 0 s) (lengths-same s out e)
@@ -119,14 +119,14 @@ same_of R t c us vs a =
     rw (of-run R t c us, of-run R t c vs) (record { said = a.same; table = table-run R t c us ∙ a.ends ∙ sym (table-run R t c vs) })
 
 module _ (R : Reading) (fair : Fair R) (t : Table) (c s out : List ℕ) {n : ℕ} where
-  codes-by : (to_start_codes s out).answer ≡ Converted.Of n → Same t (reports_in (walk_by R next_step) t c (take n (to_start_codes s out).left)) (reports_in (walk_by R next_framed) t c s)
+  codes-by : (to_start_codes s out).answer ≡ Ok n → Same t (reports_in (walk_by R next_step) t c (take n (to_start_codes s out).left)) (reports_in (walk_by R next_framed) t c s)
   codes-by e =
       let f = from-lengths s out e in
       let x = take n (to_start_codes s out).left in
       let l : length (take n (to_start_codes s out).left) ≤ limit = rw (f.size, f.done.front) f.done.small in
       rw (demand.complete R fair t c x l, complete R fair t c s f.within) (same_of R t c (units x) (framed_units s) (codes-alike (step R c) (answer R c) t s out e))
 
-  lengths-by : (to_lengths s out).answer ≡ Converted.Of n → Same t (reports_in (walk_by R next_framed) t c (take n (to_lengths s out).left)) (reports_in (walk_by R next_step) t c s)
+  lengths-by : (to_lengths s out).answer ≡ Ok n → Same t (reports_in (walk_by R next_framed) t c (take n (to_lengths s out).left)) (reports_in (walk_by R next_step) t c s)
   lengths-by e =
       let f = from-codes s out e in
       let x = take n (to_lengths s out).left in
@@ -134,20 +134,20 @@ module _ (R : Reading) (fair : Fair R) (t : Table) (c s out : List ℕ) {n : ℕ
       rw (complete R fair t c x l, demand.complete R fair t c s f.within) (same_of R t c (framed_units x) (units s) (lengths-alike (step R c) (answer R c) t s out e))
 
 module _ (t : Table) (c s out : List ℕ) {n : ℕ} where
-  pub codes-walked : (to_start_codes s out).answer ≡ Converted.Of n → Same t (reports t c (take n (to_start_codes s out).left)) (framed_reports t c s)
+  pub codes-walked : (to_start_codes s out).answer ≡ Ok n → Same t (reports t c (take n (to_start_codes s out).left)) (framed_reports t c s)
   unfolding walked walked_framed
   codes-walked = codes-by unit_read read-fair t c s out
 
-  pub lengths-walked : (to_lengths s out).answer ≡ Converted.Of n → Same t (framed_reports t c (take n (to_lengths s out).left)) (reports t c s)
+  pub lengths-walked : (to_lengths s out).answer ≡ Ok n → Same t (framed_reports t c (take n (to_lengths s out).left)) (reports t c s)
   unfolding walked walked_framed
   lengths-walked = lengths-by unit_read read-fair t c s out
 
 -- the walks that read headers alone
 module _ (t : Table) (s out : List ℕ) {n : ℕ} where
-  pub codes-headers : (to_start_codes s out).answer ≡ Converted.Of n → Same t (headers_reports t (take n (to_start_codes s out).left)) (framed_headers_reports t s)
+  pub codes-headers : (to_start_codes s out).answer ≡ Ok n → Same t (headers_reports t (take n (to_start_codes s out).left)) (framed_headers_reports t s)
   unfolding walked_headers walked_framed_headers
   codes-headers = codes-by unit_front front-fair t [] s out
 
-  pub lengths-headers : (to_lengths s out).answer ≡ Converted.Of n → Same t (framed_headers_reports t (take n (to_lengths s out).left)) (headers_reports t s)
+  pub lengths-headers : (to_lengths s out).answer ≡ Ok n → Same t (framed_headers_reports t (take n (to_lengths s out).left)) (headers_reports t s)
   unfolding walked_headers walked_framed_headers
   lengths-headers = lengths-by unit_front front-fair t [] s out

@@ -20,8 +20,8 @@ use Rattle.scan.specs.Clear.{Spot, Clear}
 use Rattle.scan.proofs.Clears.{clear-part, near-low}
 use Rattle.scan.proofs.Hits.{upto-short}
 use Rattle.walk.specs.Units.{Span}
-use Rattle.framed.specs.declared.carry.Uncarried.{Uncarried}
 use Rattle.framed.specs.Convert.{carried, first_uncarried}
+use Rattle.std.specs.Prelude.{Some}
 
 module _ (u : List ℕ) (more : 0 < length u) where
   -- a last byte that is zero
@@ -88,5 +88,5 @@ module _ (p l m : ℕ) (s : List ℕ) (us : List Span) (inside : p + l ≡ m) wh
   pub is-on : carried (take (m - p) (drop p s)) ≡ true → first_uncarried (record { place = p; size = l; next = m; read = take l (drop p s) } ∷ us) ≡ first_uncarried us
   is-on e = let f : carried (take l (drop p s)) ≡ true = rw part at e in rw f
 
-  pub is-first : carried (take (m - p) (drop p s)) ≡ false → first_uncarried (record { place = p; size = l; next = m; read = take l (drop p s) } ∷ us) ≡ Uncarried.At p
+  pub is-first : carried (take (m - p) (drop p s)) ≡ false → first_uncarried (record { place = p; size = l; next = m; read = take l (drop p s) } ∷ us) ≡ Some p
   is-first e = let f : carried (take l (drop p s)) ≡ false = rw part at e in rw f

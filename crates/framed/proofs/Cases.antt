@@ -8,12 +8,11 @@ use lib.ListN.{length}
 use Rattle.bits.specs.Refusals.{buffer_too_short, too_large, limit}
 use Rattle.escape.specs.Body.{start_with}
 use Rattle.walk.specs.Units.{units}
-use Rattle.framed.specs.declared.carry.Uncarried.{Uncarried}
-use Rattle.framed.specs.declared.convert.Converted.{Converted}
 use Rattle.framed.specs.Framed.{framed_units, end_of, broken_length}
 use Rattle.framed.specs.Convert.{not_carried, first_uncarried, start_code, length_bytes, joined, bytes_of, refuses, puts, to_start_codes, to_lengths}
 use Rattle.framed.proofs.Joins.{codes-length}
 use Rattle.framed.proofs.Never.{never-35}
+use Rattle.std.specs.Prelude.{Ok, Some, None}
 
 -- ---- the result
 
@@ -24,7 +23,7 @@ module _ (result out : List ℕ) where
   puts-short : length result ≤ limit → length out < length result → puts result out ≡ refuses buffer_too_short (length result) out
   puts-short h g = rw (le-leb (length result) limit h, lt-leb (length result) (length out) g)
 
-  puts-done : length result ≤ limit → length result ≤ length out → puts result out ≡ record { answer = Converted.Of (length result); left = start_with result out }
+  puts-done : length result ≤ limit → length result ≤ length out → puts result out ≡ record { answer = Ok (length result); left = start_with result out }
   puts-done h g = rw (le-leb (length result) limit h, le-leb (length result) (length out) g)
 
 -- ---- from lengths
@@ -43,11 +42,11 @@ module _ (s out : List ℕ) where
     codes-broken h = rw (le-leb (length s) limit small, lt-ltb (end_of 0 (framed_units s)) (length s) h)
 
     module _ (whole : length s ≤ end_of 0 (framed_units s)) where
-      pub codes-uncarried : {p : ℕ} → first_uncarried (framed_units s) ≡ Uncarried.At p → to_start_codes s out ≡ refuses not_carried p out
+      pub codes-uncarried : {p : ℕ} → first_uncarried (framed_units s) ≡ Some p → to_start_codes s out ≡ refuses not_carried p out
       unfolding to_start_codes
       codes-uncarried e = rw (le-leb (length s) limit small, le-ltb (end_of 0 (framed_units s)) (length s) whole, e)
 
-      module _ (none : first_uncarried (framed_units s) ≡ Uncarried.Nowhere) where
+      module _ (none : first_uncarried (framed_units s) ≡ None) where
         codes-puts : to_start_codes s out ≡ puts (joined start_code (bytes_of (framed_units s))) out
         unfolding to_start_codes
         codes-puts = rw (le-leb (length s) limit small, le-ltb (end_of 0 (framed_units s)) (length s) whole, none)
@@ -58,7 +57,7 @@ module _ (s out : List ℕ) where
             codes-puts ∙ puts-short (joined start_code (bytes_of (framed_units s))) out (omega arith) (omega arith) ∙ ap (λ (n : ℕ). refuses buffer_too_short n out) e
 
         pub codes-done : length s ≤ length out
-            → to_start_codes s out ≡ record { answer = Converted.Of (length (joined start_code (bytes_of (framed_units s)))); left = start_with (joined start_code (bytes_of (framed_units s))) out }
+            → to_start_codes s out ≡ record { answer = Ok (length (joined start_code (bytes_of (framed_units s)))); left = start_with (joined start_code (bytes_of (framed_units s))) out }
         codes-done h =
             let e : length (joined start_code (bytes_of (framed_units s))) ≡ length s = codes-length s whole in
             codes-puts ∙ puts-done (joined start_code (bytes_of (framed_units s))) out (omega arith) (omega arith)
@@ -84,5 +83,5 @@ module _ (s out : List ℕ) where
         lengths_short h = lengths-puts ∙ puts-short (joined length_bytes (bytes_of (units s))) out (omega arith) (omega arith) ∙ ap (λ (k : ℕ). refuses buffer_too_short k out) (sym is)
 
         pub lengths-done : n ≤ length out
-            → to_lengths s out ≡ record { answer = Converted.Of (length (joined length_bytes (bytes_of (units s)))); left = start_with (joined length_bytes (bytes_of (units s))) out }
+            → to_lengths s out ≡ record { answer = Ok (length (joined length_bytes (bytes_of (units s)))); left = start_with (joined length_bytes (bytes_of (units s))) out }
         lengths-done h = lengths-puts ∙ puts-done (joined length_bytes (bytes_of (units s))) out (omega arith) (omega arith)

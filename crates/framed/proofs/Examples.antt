@@ -5,9 +5,9 @@ use lib.IntN.{pos}
 use Rattle.bits.specs.Refusals.{refusal}
 use Rattle.walk.specs.Walk.{len_of}
 use Rattle.walk.specs.declared.walk.Step.{Step}
-use Rattle.framed.specs.declared.convert.Converted.{Converted}
 use Rattle.framed.specs.Framed.{framed_units, next_framed}
 use Rattle.framed.specs.Convert.{refuses, to_start_codes, to_lengths}
+use Rattle.std.specs.Prelude.{Ok}
 
 module _ where
   -- a unit without a byte, and the end
@@ -51,11 +51,11 @@ module _ where
   unfolding to_start_codes
   empty-carried = refl
 
-  pub put-codes : to_start_codes (0 ∷ 0 ∷ 0 ∷ 1 ∷ 65 ∷ []) (7 ∷ 7 ∷ 7 ∷ 7 ∷ 7 ∷ 7 ∷ []) ≡ record { answer = Converted.Of 5; left = 0 ∷ 0 ∷ 0 ∷ 1 ∷ 65 ∷ 7 ∷ [] }
+  pub put-codes : to_start_codes (0 ∷ 0 ∷ 0 ∷ 1 ∷ 65 ∷ []) (7 ∷ 7 ∷ 7 ∷ 7 ∷ 7 ∷ 7 ∷ []) ≡ record { answer = Ok 5; left = 0 ∷ 0 ∷ 0 ∷ 1 ∷ 65 ∷ 7 ∷ [] }
   unfolding to_start_codes
   put-codes = refl
 
-  pub put-lengths : to_lengths (9 ∷ 0 ∷ 0 ∷ 1 ∷ 65 ∷ 0 ∷ []) (7 ∷ 7 ∷ 7 ∷ 7 ∷ 7 ∷ 7 ∷ []) ≡ record { answer = Converted.Of 5; left = 0 ∷ 0 ∷ 0 ∷ 1 ∷ 65 ∷ 7 ∷ [] }
+  pub put-lengths : to_lengths (9 ∷ 0 ∷ 0 ∷ 1 ∷ 65 ∷ 0 ∷ []) (7 ∷ 7 ∷ 7 ∷ 7 ∷ 7 ∷ 7 ∷ []) ≡ record { answer = Ok 5; left = 0 ∷ 0 ∷ 0 ∷ 1 ∷ 65 ∷ 7 ∷ [] }
   unfolding to_lengths len_of
   put-lengths = refl
 

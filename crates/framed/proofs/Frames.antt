@@ -11,9 +11,9 @@ use lib.ListN.{length, get_or, take, drop, length-drop}
 use lib.Seq.{drop-cons, drop-drop}
 use Rattle.bits.specs.Refusals.{pick}
 use Rattle.walk.specs.Units.{Span}
-use Rattle.framed.specs.declared.carry.Uncarried.{Uncarried}
 use Rattle.framed.specs.Framed.{four, span_by, framed_at, end_of}
 use Rattle.framed.specs.Convert.{carried, first_uncarried}
+use Rattle.std.specs.Prelude.{Some, None}
 
 -- ---- what stands from a place on
 
@@ -84,11 +84,11 @@ end-within zero n (a ∷ b ∷ c ∷ d ∷ r) h = go (leb (four a b c d) (length
     go true e ih = let q = ih (leb-true (four a b c d) (length r) e) in omega arith
     go false e ih = omega arith
 
-nowhere : {p : ℕ} → Uncarried.Nowhere ≡ Uncarried.At p → ⊥
+nowhere : {p : ℕ} → None ≡ Some p → ⊥
 nowhere e = let z : ◌≡◌ {A = ℕ} 0 1 = cc in omega arith
 
 -- so none of them that cannot be carried stands behind it
-pub uncarried-within : (k n : ℕ) (l : List ℕ) {p : ℕ} → k ≤ length l → first_uncarried (framed_at k n l) ≡ Uncarried.At p → p ≤ n + length l
+pub uncarried-within : (k n : ℕ) (l : List ℕ) {p : ℕ} → k ≤ length l → first_uncarried (framed_at k n l) ≡ Some p → p ≤ n + length l
 uncarried-within (suc k) n [] h e = absurd (omega arith)
 uncarried-within (suc k) n (a ∷ r) h e = let q = uncarried-within k (suc n) r (omega arith) e in omega arith
 uncarried-within zero n [] h e = absurd (nowhere e)
@@ -97,14 +97,14 @@ uncarried-within zero n (a ∷ b ∷ []) h e = absurd (nowhere e)
 uncarried-within zero n (a ∷ b ∷ c ∷ []) h e = absurd (nowhere e)
 uncarried-within zero n (a ∷ b ∷ c ∷ d ∷ r) {p} h e = go (leb (four a b c d) (length r)) refl (uncarried-within (four a b c d) (n + 4) r {p = p}) e
   where
-    under : (v : Bool) → (first_uncarried (framed_at (four a b c d) (n + 4) r) ≡ Uncarried.At p → p ≤ n + 4 + length r)
-        → pick v (first_uncarried (framed_at (four a b c d) (n + 4) r)) (Uncarried.At (n + 4)) ≡ Uncarried.At p → p ≤ n + suc (suc (suc (suc (length r))))
+    under : (v : Bool) → (first_uncarried (framed_at (four a b c d) (n + 4) r) ≡ Some p → p ≤ n + 4 + length r)
+        → pick v (first_uncarried (framed_at (four a b c d) (n + 4) r)) (Some (n + 4)) ≡ Some p → p ≤ n + suc (suc (suc (suc (length r))))
     under true ih q = let z = ih q in omega arith
     under false ih q = let z : n + 4 ≡ p = cc in omega arith
 
     go : (t : Bool) → leb (four a b c d) (length r) ≡ t
-        → (four a b c d ≤ length r → first_uncarried (framed_at (four a b c d) (n + 4) r) ≡ Uncarried.At p → p ≤ n + 4 + length r)
-        → first_uncarried (pick t (span_by (n + 4) (four a b c d) r ∷ framed_at (four a b c d) (n + 4) r) []) ≡ Uncarried.At p
+        → (four a b c d ≤ length r → first_uncarried (framed_at (four a b c d) (n + 4) r) ≡ Some p → p ≤ n + 4 + length r)
+        → first_uncarried (pick t (span_by (n + 4) (four a b c d) r ∷ framed_at (four a b c d) (n + 4) r) []) ≡ Some p
         → p ≤ n + suc (suc (suc (suc (length r))))
     go true f ih q = under (carried (take (four a b c d) r)) (ih (leb-true (four a b c d) (length r) f)) q
     go false f ih q = absurd (nowhere q)

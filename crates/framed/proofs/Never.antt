@@ -13,9 +13,9 @@ use Rattle.walk.specs.Walk.{hit, upto, keep, kept, len_of}
 use Rattle.walk.specs.Units.{span_of, units_at, units}
 use Rattle.walk.proofs.Hits.{upto_le}
 use Rattle.walk.proofs.Trims.{kept-le}
-use Rattle.framed.specs.declared.carry.Uncarried.{Uncarried}
 use Rattle.framed.specs.Convert.{first_uncarried}
 use Rattle.framed.proofs.Marks.{Plain, is_plain}
+use Rattle.std.specs.Prelude.{None}
 
 -- ---- no mark
 
@@ -108,14 +108,14 @@ unit-plain b = go (ltb (upto 0 b) (length b)) refl
         let l : length (take (kept b) b) ≡ kept b = length-take-le (kept b) b m in
         record { marks = upto_take (kept b) b (omega arith) ∙ sym l; last = kept-open b ∙ sym l }
 
-pub all-carried : (n : ℕ) (l : List ℕ) → first_uncarried (units_at n l) ≡ Uncarried.Nowhere
+pub all-carried : (n : ℕ) (l : List ℕ) → first_uncarried (units_at n l) ≡ None
 all-carried n [] = refl
 all-carried n (a ∷ r) = go (hit 1 (a ∷ r)) (all-carried (suc n) r)
   where
-    go : (t : Bool) → first_uncarried (units_at (suc n) r) ≡ Uncarried.Nowhere → first_uncarried (pick t (span_of n (drop 2 r) ∷ units_at (suc n) r) (units_at (suc n) r)) ≡ Uncarried.Nowhere
+    go : (t : Bool) → first_uncarried (units_at (suc n) r) ≡ None → first_uncarried (pick t (span_of n (drop 2 r) ∷ units_at (suc n) r) (units_at (suc n) r)) ≡ None
     go true ih = rw (is_plain (take (len_of (drop 2 r)) (drop 2 r)) (unit-plain (drop 2 r)), ih)
     go false ih = ih
 
 -- so 35 never arises from start codes
-pub never-35 : (s : List ℕ) → first_uncarried (units s) ≡ Uncarried.Nowhere
+pub never-35 : (s : List ℕ) → first_uncarried (units s) ≡ None
 never-35 s = all-carried 0 s

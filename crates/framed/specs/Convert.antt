@@ -4,9 +4,9 @@ use Rattle.bits.specs.Refusals.{pick, refusal, buffer_too_short, too_large, limi
 use Rattle.escape.specs.Body.{start_with}
 use Rattle.walk.specs.Walk.{upto, kept}
 use Rattle.walk.specs.Units.{Span, units}
-use Rattle.framed.specs.declared.carry.Uncarried.{Uncarried}
-use Rattle.framed.specs.declared.convert.Converted.{Converted}
 use Rattle.framed.specs.Framed.{framed_units, end_of, broken_length}
+use Rattle.std.specs.Prelude.{Result, Ok, Err, Option, Some, None}
+use Rattle.bits.specs.declared.refusals.Refusal.{Refusal}
 
 -- a unit that cannot be carried; the value is the place of its first byte
 abbrev pub not_carried : ℕ
@@ -19,9 +19,9 @@ abbrev pub carried : List ℕ → Bool
 carried u = eqb (upto 0 u) (length u) && eqb (kept u) (length u)
 
 -- the place of the first unit that is not
-abbrev pub first_uncarried : List Span → Uncarried
-first_uncarried [] = Uncarried.Nowhere
-first_uncarried (u ∷ us) = pick (carried u.read) (first_uncarried us) (Uncarried.At u.place)
+abbrev pub first_uncarried : List Span → Option ℕ
+first_uncarried [] = None
+first_uncarried (u ∷ us) = pick (carried u.read) (first_uncarried us) (Some u.place)
 
 -- ---- the result
 
@@ -45,24 +45,24 @@ bytes_of us = map (λ (u : Span). u.read) us
 
 -- what is answered, and the output at exit
 pub record ConvertOut : Type 0 where
-  pub answer : Converted
+  pub answer : Result ℕ Refusal
   pub left : List ℕ
 
 -- refused: the output is as it was
 abbrev pub refuses : ℕ → ℕ → List ℕ → ConvertOut
-refuses number value out = record { answer = Converted.Refused (refusal number (pos value)); left = out }
+refuses number value out = record { answer = Err (refusal number (pos value)); left = out }
 
 -- 27 for the result, then 26; else the output starts with the result and is otherwise as it was
 abbrev pub puts : List ℕ → List ℕ → ConvertOut
 puts result out =
     pick (leb (length result) limit)
-    (pick (leb (length result) (length out)) (record { answer = Converted.Of (length result); left = start_with result out }) (refuses buffer_too_short (length result) out))
+    (pick (leb (length result) (length out)) (record { answer = Ok (length result); left = start_with result out }) (refuses buffer_too_short (length result) out))
     (refuses too_large 0 out)
 
 -- 35 first
-abbrev pub unless_at : Uncarried → ConvertOut → List ℕ → ConvertOut
-unless_at (Uncarried.At place) done out = refuses not_carried place out
-unless_at Uncarried.Nowhere done out = done
+abbrev pub unless_at : Option ℕ → ConvertOut → List ℕ → ConvertOut
+unless_at (Some place) done out = refuses not_carried place out
+unless_at None done out = done
 
 abbrev pub carries : (ℕ → List ℕ) → List Span → List ℕ → ConvertOut
 carries before us out = unless_at (first_uncarried us) (puts (joined before (bytes_of us)) out) out

@@ -1,11 +1,11 @@
 // The walk over a recording framed by length: the unit whose length stands at a place, read in its turn as a unit behind a start code is.
 ghost use Rattle.header.specs.Lead.{table_of};
-ghost use Rattle.unit.specs.Into.{lent_words};
+ghost use Rattle.unit.specs.Into.{lent_in, SameLent};
 ghost use Rattle.walk.specs.WalkedInto.{WalkedInto};
 ghost use Rattle.framed.specs.Walked.{walked_framed};
 
 use crate::step::next_framed;
-use unit::into::ShortAnswer;
+use unit::into::{AllWords, ShortAnswer};
 use walk::turn::body_in_turn;
 use walk::walk::{Step, WalkedShort};
 
@@ -16,16 +16,10 @@ pub fn walk_framed_into(
     recording: &[u8],
     from: usize,
     scratch: &mut [u8],
-    numbers: &mut [u32; 57],
-    signed: &mut [i32; 7],
-    l0: &mut [u32; 198],
-    l1: &mut [u32; 198],
-    marking: &mut [u32; 198],
-    w0: &mut [i32; 256],
-    w1: &mut [i32; 256],
-    base: &mut [u32; 198],
+    w: &mut AllWords<'_>,
 ) -> WalkedShort
-    ensures { WalkedInto (walked_framed (table_of sequences.old pictures.old) recording.now from scratch.old) result scratch.new (table_of sequences.new pictures.new) (lent_words numbers signed l0 l1 marking w0 w1 base).entry (lent_words numbers signed l0 l1 marking w0 w1 base).exit }
+    ensures walked { WalkedInto (walked_framed (table_of sequences.old pictures.old) recording.now from scratch.old) result scratch.new (table_of sequences.new pictures.new) (lent_in w.old) (lent_in w.new) }
+    ensures same { SameLent w.old w.new }
 {
     let step = next_framed(recording, from);
     let Step::Unit(place, length, _) = step else {
@@ -35,20 +29,6 @@ pub fn walk_framed_into(
         };
     };
     let end = place + length;
-    let answer = body_in_turn(
-        sequences,
-        pictures,
-        &recording[place..end],
-        0,
-        scratch,
-        numbers,
-        signed,
-        l0,
-        l1,
-        marking,
-        w0,
-        w1,
-        base,
-    );
+    let answer = body_in_turn(sequences, pictures, &recording[place..end], 0, scratch, w);
     WalkedShort { step, answer }
 }

@@ -10,13 +10,6 @@ use crate::step::{next_framed, units_end};
 use scan::scan::seek;
 use walk::walk::Step;
 
-// The place of the first unit that cannot be carried, if there is one.
-#[derive(Clone, Copy)]
-pub enum Uncarried {
-    At(usize),
-    Nowhere,
-}
-
 // A unit shorter than this is looked through by itself: a search, which finds the place too, takes longer to begin.
 const SHORT: usize = 130;
 
@@ -83,7 +76,7 @@ fn is_carried(unit: &[u8]) -> bool
 #[derive(Clone, Copy)]
 pub(crate) struct Surveyed {
     pub end: usize,
-    pub first: Uncarried,
+    pub first: Option<usize>,
 }
 
 pub(crate) fn survey(recording: &[u8]) -> Surveyed
@@ -96,7 +89,7 @@ pub(crate) fn survey(recording: &[u8]) -> Surveyed
         let Step::Unit(place, _, next) = next_framed(recording, i) else {
             return Surveyed {
                 end: i,
-                first: Uncarried::Nowhere,
+                first: None,
             };
         };
         if is_carried(&recording[place..next]) {
@@ -104,7 +97,7 @@ pub(crate) fn survey(recording: &[u8]) -> Surveyed
         } else {
             return Surveyed {
                 end: units_end(recording, next),
-                first: Uncarried::At(place),
+                first: Some(place),
             };
         }
     }

@@ -6,7 +6,7 @@ ghost use Rattle.walk.specs.Units.{units};
 ghost use Rattle.framed.specs.Framed.{framed_units};
 ghost use Rattle.framed.specs.Convert.{start_code, length_bytes, joined, bytes_of, to_start_codes, to_lengths};
 
-use crate::carry::{Uncarried, survey};
+use crate::carry::survey;
 use crate::put::put_unit;
 use crate::step::next_framed;
 use bits::refusals::{
@@ -14,13 +14,6 @@ use bits::refusals::{
 };
 use walk::search::{Found, next_unit};
 use walk::walk::Step;
-
-// How many bytes the result has, or why there is none.
-#[derive(Clone, Copy)]
-pub enum Converted {
-    Refused(Refusal),
-    Of(usize),
-}
 
 // The units of a recording framed by length, each behind 00 00 00 01: as long as its length, so all stand where they stood.
 fn put_codes(recording: &[u8], out: &mut [u8]) -> usize
@@ -39,27 +32,27 @@ fn put_codes(recording: &[u8], out: &mut [u8]) -> usize
     }
 }
 
-pub fn to_start_codes(recording: &[u8], out: &mut [u8]) -> Converted
+pub fn to_start_codes(recording: &[u8], out: &mut [u8]) -> Result<usize, Refusal>
     ensures value { result ≡ (to_start_codes recording.now out.old).answer }
     ensures out_after { out.new ≡ (to_start_codes recording.now out.old).left }
 {
     let n = recording.len();
     if LIMIT < n {
-        return Converted::Refused(refuse(TOO_LARGE, 0));
+        return Err(refuse(TOO_LARGE, 0));
     }
     let found = survey(recording);
     let end = found.end;
     if end < n {
-        return Converted::Refused(refuse(BROKEN_LENGTH, end as i64));
+        return Err(refuse(BROKEN_LENGTH, end as i64));
     }
     let first = found.first;
-    if let Uncarried::At(place) = first {
-        return Converted::Refused(refuse(NOT_CARRIED, place as i64));
+    if let Some(place) = first {
+        return Err(refuse(NOT_CARRIED, place as i64));
     }
     if out.len() < n {
-        return Converted::Refused(refuse(BUFFER_TOO_SHORT, n as i64));
+        return Err(refuse(BUFFER_TOO_SHORT, n as i64));
     }
-    Converted::Of(put_codes(recording, out))
+    Ok(put_codes(recording, out))
 }
 
 // How many bytes the units of a recording with start codes have, each behind its length.
@@ -133,23 +126,23 @@ fn is_roomy(n: usize, room: usize) -> bool
 }
 
 // Output of a third more bytes than the recording is always long enough, and saves a search.
-pub fn to_lengths(recording: &[u8], out: &mut [u8]) -> Converted
+pub fn to_lengths(recording: &[u8], out: &mut [u8]) -> Result<usize, Refusal>
     ensures value { result ≡ (to_lengths recording.now out.old).answer }
     ensures out_after { out.new ≡ (to_lengths recording.now out.old).left }
 {
     let n = recording.len();
     if LIMIT < n {
-        return Converted::Refused(refuse(TOO_LARGE, 0));
+        return Err(refuse(TOO_LARGE, 0));
     }
     if is_roomy(n, out.len()) {
-        return Converted::Of(put_lengths(recording, out));
+        return Ok(put_lengths(recording, out));
     }
     let need = size_with_lengths(recording);
     if LIMIT < need {
-        return Converted::Refused(refuse(TOO_LARGE, 0));
+        return Err(refuse(TOO_LARGE, 0));
     }
     if out.len() < need {
-        return Converted::Refused(refuse(BUFFER_TOO_SHORT, need as i64));
+        return Err(refuse(BUFFER_TOO_SHORT, need as i64));
     }
-    Converted::Of(put_lengths(recording, out))
+    Ok(put_lengths(recording, out))
 }

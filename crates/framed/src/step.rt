@@ -3,7 +3,7 @@ ghost use Rattle.std.specs.Prelude.{◌≡◌, ◌+◌, ◌<◌, ◌≤◌, leng
 ghost use Rattle.bits.specs.Refusals.{limit};
 ghost use Rattle.framed.specs.Framed.{four, framed_at, end_of, next_framed};
 
-use bits::refusals::{BROKEN_LENGTH, LIMIT, TOO_LARGE, refuse};
+use bits::refusals::{BROKEN_LENGTH, LIMIT, Refusal, TOO_LARGE, refuse};
 use walk::walk::Step;
 
 fn wide(x: u8) -> usize

@@ -13,13 +13,10 @@ use Rattle.fmt.specs.Reads.{Reads, passes}
 use Rattle.fmt.proofs.Ahead.{on-got}
 use Rattle.escape.specs.Body.{body}
 use Rattle.escape.proofs.Bodies.{part_length}
-use Rattle.fields.specs.declared.step.End.{End}
 use Rattle.fields.specs.Steps.{as_end}
 use Rattle.parameter_sets.specs.declared.picture.PictureStart.{PictureStart}
-use Rattle.parameter_sets.specs.declared.picture.PictureSetStep.{PictureSetStep}
 use Rattle.parameter_sets.specs.SequenceSet.{sequence_set}
 use Rattle.parameter_sets.specs.PictureParts.{picture_start, picture_rest, moved, id_count, id_bits, ids_end}
-use Rattle.parameter_sets.specs.PictureSteps.{as_picture_set}
 use Rattle.parameter_sets.proofs.Looks.{Looks, looks-room, passes-looks, u-looks}
 use Rattle.parameter_sets.proofs.SetsLook.{sequence-looks, start-looks, rest-looks}
 use Rattle.parameter_sets.proofs.Moves.{Moved, is-moved, value-within, refusal-within, rest-moves}
@@ -28,6 +25,10 @@ use Rattle.cut.specs.Seam.{body_bits, far_body, tail_body}
 use Rattle.cut.proofs.Fronts.{far-any}
 use Rattle.cut.proofs.Tails.{tail-same, tail-bits}
 use Rattle.front.specs.Places.{place_in}
+use Rattle.std.specs.Prelude.{Result, Ok, Err}
+use Rattle.bits.specs.Answers.{Read, as_read}
+use Rattle.bits.specs.declared.refusals.Refusal.{Refusal}
+use Rattle.parameter_sets.specs.declared.picture.PictureSet.{PictureSet}
 
 -- ---- a sequence set
 
@@ -52,15 +53,15 @@ body-bits unit from = sym (length-bytes (body 0 (drop from unit)))
 pub bits-few : (unit : List ℕ) → length unit ≤ limit → length (body_bits unit 1) ≤ 2147483648
 bits-few unit h = omega (arith, body-bits unit 1, part_length unit 1)
 
-module _ (unit : List ℕ) (v : PictureStart) (e : ℕ) (p : picture_start (body_bits unit 1) 0 ≡ got v e) {r : End} {m : ℕ} (n : m ≡ length (body 0 (drop 1 unit)))
+module _ (unit : List ℕ) (v : PictureStart) (e : ℕ) (p : picture_start (body_bits unit 1) 0 ≡ got v e) {r : Result Cursor Refusal} {m : ℕ} (n : m ≡ length (body 0 (drop 1 unit)))
     (q : r ≡ ids_end v.groups e (8 * m)) where
   pub ids-passed : as_end r tt ≡ passes (id_count v.groups) (u (id_bits v.groups)).read (body_bits unit 1) e
   ids-passed = rw (q, n, body-bits unit 1) (ends-passed v.groups (body_bits unit 1) e)
 
-  pub ids-within : (d : Cursor) → r ≡ End.At d → d.at ≤ length (body_bits unit 1)
+  pub ids-within : (d : Cursor) → r ≡ Ok d → d.at ≤ length (body_bits unit 1)
   ids-within d k =
       let l : e ≤ length (body_bits unit 1) = got-within start-looks (body_bits unit 1) 0 (omega arith) p in
-      let g : passes (id_count v.groups) (u (id_bits v.groups)).read (body_bits unit 1) e ≡ got tt d.at = sym ids-passed ∙ ap (λ (x : End). as_end x tt) k in
+      let g : passes (id_count v.groups) (u (id_bits v.groups)).read (body_bits unit 1) e ≡ got tt d.at = sym ids-passed ∙ ap (λ (x : Result Cursor Refusal). as_end x tt) k in
       got-within (passes-looks (u-looks (id_bits v.groups)) (id_count v.groups)) (body_bits unit 1) e l g
 
 -- ---- and behind them
@@ -78,20 +79,20 @@ module _ (unit : List ℕ) (at : ℕ) (h : at ≤ length (body_bits unit 1)) (st
   moves : Moved (8 * k) (length (drop (8 * k) B)) (picture_rest start B (8 * k + at % 8)) (picture_rest start (drop (8 * k) B) (at % 8))
   moves = (rest-moves start).moves B (8 * k) (at % 8) (omega arith) (omega (arith, length-drop (8 * k) B))
 
-  module _ (a : PictureSetStep) (p : as_picture_set a ≡ picture_rest start (bytes_bits (tail_body unit 1 k)) (at % 8)) where
+  module _ (a : Read PictureSet) (p : as_read a ≡ picture_rest start (bytes_bits (tail_body unit 1 k)) (at % 8)) where
     pub rest-place : place_in a ≤ length (body_bits unit 1)
     rest-place = go a (p ∙ last_rest)
       where
-        go : (a : PictureSetStep) → as_picture_set a ≡ picture_rest start (drop (8 * k) B) (at % 8) → place_in a ≤ length B
-        go (PictureSetStep.Got v c) q = omega (arith, value-within moves (sym q), length-drop (8 * k) B)
-        go (PictureSetStep.Refused r) q = omega (arith, refusal-within moves (sym q), length-drop (8 * k) B)
+        go : (a : Read PictureSet) → as_read a ≡ picture_rest start (drop (8 * k) B) (at % 8) → place_in a ≤ length B
+        go (Ok (v, c)) q = omega (arith, value-within moves (sym q), length-drop (8 * k) B)
+        go (Err r) q = omega (arith, refusal-within moves (sym q), length-drop (8 * k) B)
 
-    pub rest-moved : moved (8 * k) (as_picture_set a) ≡ picture_rest start (body_bits unit 1) at
+    pub rest-moved : moved (8 * k) (as_read a) ≡ picture_rest start (body_bits unit 1) at
     rest-moved =
         let e : 8 * k + at % 8 ≡ at = omega arith in
         ap (moved (8 * k)) (p ∙ last_rest) ∙ sym (is-moved moves) ∙ ap (λ (n : ℕ). picture_rest start B n) e
 
 -- what is read from the array
-pub rest_read : (unit : List ℕ) (at : ℕ) (start : PictureStart) {x : List ℕ} (a : PictureSetStep) → x ≡ tail_body unit 1 (at / 8) → as_picture_set a ≡ picture_rest start (bits_of x) (at % 8)
-    → as_picture_set a ≡ picture_rest start (bytes_bits (tail_body unit 1 (at / 8))) (at % 8)
+pub rest_read : (unit : List ℕ) (at : ℕ) (start : PictureStart) {x : List ℕ} (a : Read PictureSet) → x ≡ tail_body unit 1 (at / 8) → as_read a ≡ picture_rest start (bits_of x) (at % 8)
+    → as_read a ≡ picture_rest start (bytes_bits (tail_body unit 1 (at / 8))) (at % 8)
 rest_read unit at start a e p = p ∙ ap (λ (b : Bits). picture_rest start b (at % 8)) (tail-bits unit 1 (at / 8) e)

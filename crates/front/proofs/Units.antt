@@ -7,7 +7,6 @@ use lib.ListN.{length, replicate, length-replicate}
 use Rattle.bits.specs.declared.refusals.Refusal.{Refusal}
 use Rattle.table.specs.declared.table.Table.{Table}
 use Rattle.unit.specs.declared.answer.UnitAnswer.{UnitAnswer}
-use Rattle.unit.specs.declared.head.HeadRead.{HeadRead}
 use Rattle.unit.specs.declared.head.UnitHead.{UnitHead}
 use Rattle.unit.specs.Head.{head_of}
 use Rattle.unit.specs.Unit.{untouched, unit_read}
@@ -15,14 +14,15 @@ use Rattle.unit.proofs.Pair.{own-head, head-refused}
 use Rattle.unit.proofs.Rooms.{unit-roomy}
 use Rattle.front.specs.Front.{unit_front, body_front}
 use Rattle.front.proofs.Cases.{front-own}
+use Rattle.std.specs.Prelude.{Ok, Err}
 
 module _ (t : Table) (unit scratch : List ℕ) where
   -- ---- the head, and then the rest
 
-  pub front-given : {h : UnitHead} → head_of unit ≡ HeadRead.Got h → body_front t h unit scratch ≡ unit_front t unit scratch
+  pub front-given : {h : UnitHead} → head_of unit ≡ Ok h → body_front t h unit scratch ≡ unit_front t unit scratch
   front-given {h} q = front-own t unit scratch h (own-head unit q)
 
-  pub front-refused : {r : Refusal} → head_of unit ≡ HeadRead.Refused r → unit_front t unit scratch ≡ untouched (UnitAnswer.Refused r) scratch
+  pub front-refused : {r : Refusal} → head_of unit ≡ Err r → unit_front t unit scratch ≡ untouched (UnitAnswer.Refused r) scratch
   unfolding unit_front
   front-refused {r} q = rw (head-refused t unit (replicate (length unit) 0) q)
 

@@ -1,7 +1,9 @@
 -- For private contracts alone: the bit place in an answer of reading a picture set.
 use Rattle.std.specs.Prelude.{ℕ}
-use Rattle.parameter_sets.specs.declared.picture.PictureSetStep.{PictureSetStep}
+use Rattle.std.specs.Prelude.{Ok, Err}
+use Rattle.bits.specs.Answers.{Read}
+use Rattle.parameter_sets.specs.declared.picture.PictureSet.{PictureSet}
 
-abbrev pub place_in : PictureSetStep → ℕ
-place_in (PictureSetStep.Got v c) = c.at
-place_in (PictureSetStep.Refused r) = r.bit
+abbrev pub place_in : Read PictureSet → ℕ
+place_in (Ok (v, c)) = c.at
+place_in (Err r) = r.bit

@@ -4,12 +4,12 @@ ghost use Rattle.syntax.specs.Prefix.{prefix};
 ghost use Rattle.lists.specs.ListsLent.{prefix_step, prefix_left};
 ghost use Rattle.cut.specs.Seam.{body_bits, near};
 
-use bits::read::Cursor;
+use bits::read::{Cursor, Read};
 use cut::part::{NEAR, far_body, may_change, near_body};
-use lists::list_words::{PrefixStep, prefix_into};
+use lists::list_words::{PrefixShort, prefix_into};
 use syntax::context::PrefixKind;
 
-fn prefix_near(unit: &[u8], kind: PrefixKind, base: &mut [u32; 198]) -> PrefixStep
+fn prefix_near(unit: &[u8], kind: PrefixKind, base: &mut [u32; 198]) -> Read<PrefixShort>
     ensures value { result ≡ prefix_step ((prefix kind).read (body_bits (take near unit.now) 4) 0) }
     ensures base_after { base.new ≡ prefix_left ((prefix kind).read (body_bits (take near unit.now) 4) 0) }
 {
@@ -18,7 +18,7 @@ fn prefix_near(unit: &[u8], kind: PrefixKind, base: &mut [u32; 198]) -> PrefixSt
     prefix_into(&local[..n], Cursor { at: 0 }, kind, base)
 }
 
-fn prefix_far(unit: &[u8], kind: PrefixKind, base: &mut [u32; 198]) -> PrefixStep
+fn prefix_far(unit: &[u8], kind: PrefixKind, base: &mut [u32; 198]) -> Read<PrefixShort>
     ensures value { result ≡ prefix_step ((prefix kind).read (body_bits unit.now 4) 0) }
     ensures base_after { base.new ≡ prefix_left ((prefix kind).read (body_bits unit.now 4) 0) }
 {
@@ -28,7 +28,7 @@ fn prefix_far(unit: &[u8], kind: PrefixKind, base: &mut [u32; 198]) -> PrefixSte
 }
 
 // The body of a prefix unit.
-pub(crate) fn prefix_body(unit: &[u8], kind: PrefixKind, base: &mut [u32; 198]) -> PrefixStep
+pub(crate) fn prefix_body(unit: &[u8], kind: PrefixKind, base: &mut [u32; 198]) -> Read<PrefixShort>
     ensures value { result ≡ prefix_step ((prefix kind).read (body_bits unit.now 4) 0) }
     ensures base_after { base.new ≡ prefix_left ((prefix kind).read (body_bits unit.now 4) 0) }
 {
@@ -36,7 +36,7 @@ pub(crate) fn prefix_body(unit: &[u8], kind: PrefixKind, base: &mut [u32; 198]) 
     if unit.len() <= NEAR {
         return a;
     }
-    let PrefixStep::Refused(r) = a else {
+    let Err(r) = a else {
         return a;
     };
     if may_change(r) {

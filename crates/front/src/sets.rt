@@ -3,27 +3,23 @@
 ghost use Rattle.std.specs.Prelude.{◌≡◌, ◌≤◌, length};
 ghost use Rattle.bits.specs.Refusals.{limit};
 ghost use Rattle.parameter_sets.specs.SequenceSet.{sequence_set};
-ghost use Rattle.parameter_sets.specs.SequenceSteps.{as_sequence_set};
 ghost use Rattle.parameter_sets.specs.PictureSet.{picture_set};
 ghost use Rattle.parameter_sets.specs.PictureParts.{picture_start, picture_rest, moved};
-ghost use Rattle.parameter_sets.specs.PictureSteps.{as_picture_set, as_picture_start};
 ghost use Rattle.cut.specs.Seam.{body_bits};
 ghost use Rattle.front.specs.Places.{place_in};
+ghost use Rattle.bits.specs.Answers.{as_read};
 
-use bits::read::Cursor;
+use bits::read::{Cursor, Read};
 use bits::refusals::Refusal;
 use cut::part::far_body;
 use cut::tail::{body_bytes, tail_body};
-use fields::step::{End, why_end};
 use parameter_sets::groups::ids_end;
-use parameter_sets::picture::{
-    PictureSetStep, PictureStart, PictureStartStep, picture_rest, picture_start, why_picture_start,
-};
-use parameter_sets::sequence::{SequenceSetStep, sequence_set};
+use parameter_sets::picture::{PictureSet, PictureStart, picture_rest, picture_start};
+use parameter_sets::sequence::{SequenceSet, sequence_set};
 
 // The body of a sequence set.
-pub(crate) fn sequence_body(unit: &[u8]) -> SequenceSetStep
-    ensures { as_sequence_set result ≡ sequence_set (body_bits unit.now 1) 0 }
+pub(crate) fn sequence_body(unit: &[u8]) -> Read<SequenceSet>
+    ensures { as_read result ≡ sequence_set (body_bits unit.now 1) 0 }
 {
     let mut local = [0u8; 12289];
     let n = far_body(unit, 1, &mut local);
@@ -31,8 +27,8 @@ pub(crate) fn sequence_body(unit: &[u8]) -> SequenceSetStep
 }
 
 // What stands before a picture set's ids.
-fn before_ids(unit: &[u8]) -> PictureStartStep
-    ensures { as_picture_start result ≡ picture_start (body_bits unit.now 1) 0 }
+fn before_ids(unit: &[u8]) -> Read<PictureStart>
+    ensures { as_read result ≡ picture_start (body_bits unit.now 1) 0 }
 {
     let mut local = [0u8; 256];
     let n = tail_body(unit, 1, 0, &mut local);
@@ -40,13 +36,13 @@ fn before_ids(unit: &[u8]) -> PictureStartStep
 }
 
 // An answer of reading behind k bits that were not there, with its place among all.
-fn move_by(a: PictureSetStep, k: usize) -> PictureSetStep
+fn move_by(a: Read<PictureSet>, k: usize) -> Read<PictureSet>
     requires { (place_in a ≤ 4294967296) × (k ≤ 4294967296) }
-    ensures { as_picture_set result ≡ moved k (as_picture_set a) }
+    ensures { as_read result ≡ moved k (as_read a) }
 {
     match a {
-        PictureSetStep::Got(v, c) => PictureSetStep::Got(v, Cursor { at: k + c.at }),
-        PictureSetStep::Refused(r) => PictureSetStep::Refused(Refusal {
+        Ok((v, c)) => Ok((v, Cursor { at: k + c.at })),
+        Err(r) => Err(Refusal {
             number: r.number,
             has_bit: r.has_bit,
             value: r.value,
@@ -56,9 +52,9 @@ fn move_by(a: PictureSetStep, k: usize) -> PictureSetStep
 }
 
 // What stands behind them, from bit `at` on.
-fn behind_ids(unit: &[u8], at: usize, start: PictureStart) -> PictureSetStep
+fn behind_ids(unit: &[u8], at: usize, start: PictureStart) -> Read<PictureSet>
     requires { (length unit.now ≤ limit) × (at ≤ length (body_bits unit.now 1)) }
-    ensures { as_picture_set result ≡ picture_rest start (body_bits unit.now 1) at }
+    ensures { as_read result ≡ picture_rest start (body_bits unit.now 1) at }
 {
     let mut local = [0u8; 256];
     let k = at / 8;
@@ -70,17 +66,11 @@ fn behind_ids(unit: &[u8], at: usize, start: PictureStart) -> PictureSetStep
 }
 
 // The body of a picture set.
-pub(crate) fn picture_body(unit: &[u8]) -> PictureSetStep
+pub(crate) fn picture_body(unit: &[u8]) -> Read<PictureSet>
     requires { length unit.now ≤ limit }
-    ensures { as_picture_set result ≡ picture_set (body_bits unit.now 1) 0 }
+    ensures { as_read result ≡ picture_set (body_bits unit.now 1) 0 }
 {
-    let a = before_ids(unit);
-    let PictureStartStep::Got(start, c) = a else {
-        return PictureSetStep::Refused(why_picture_start(a));
-    };
-    let b = ids_end(start.groups, c, 8 * body_bytes(unit, 1));
-    let End::At(d) = b else {
-        return PictureSetStep::Refused(why_end(b));
-    };
+    let (start, c) = before_ids(unit)?;
+    let d = ids_end(start.groups, c, 8 * body_bytes(unit, 1))?;
     behind_ids(unit, d.at, start)
 }

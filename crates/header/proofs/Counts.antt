@@ -15,7 +15,6 @@ use Rattle.fields.proofs.Cases.{number_passed}
 use Rattle.table.specs.declared.table.Table.{Table}
 use Rattle.syntax.specs.declared.context.UnitKind.{UnitKind}
 use Rattle.syntax.specs.declared.context.Context.{Context}
-use Rattle.syntax.specs.declared.marks.MarkedNumber.{MarkedNumber}
 use Rattle.syntax.specs.declared.record.ActiveCounts.{ActiveCounts}
 use Rattle.syntax.specs.Marks.{number_if, flag_if}
 use Rattle.syntax.specs.Context.{is_b, has_l0}
@@ -28,6 +27,7 @@ use Rattle.weights.proofs.AtMost.{at-most-32}
 use Rattle.header.specs.declared.lead.Led.{Led}
 use Rattle.header.specs.Lead.{led_of}
 use Rattle.header.specs.Stages.{FrontParts, context_of, front_at}
+use Rattle.syntax.specs.declared.marks.Marked.{Marked}
 
 few-same : (n : ℕ) → n ≤ 32 → at_most32 n ≡ n
 unfolding at_most32
@@ -47,7 +47,7 @@ led-few t s at {l} h =
     (λ v d hv k. let w : led_of t v ≡ l = cc k in subst (λ (p : Led). Few p.picture) w (defaults-few t v.1.1))
 
 -- a count of the header's own
-own-few : (b : Bool) (s : Bits) (at : ℕ) {m : MarkedNumber} {e : ℕ} → (number_if b active_minus1).read s at ≡ got m e → m.value ≤ 31
+own-few : (b : Bool) (s : Bits) (at : ℕ) {m : (Marked ℕ)} {e : ℕ} → (number_if b active_minus1).read s at ≡ got m e → m.value ≤ 31
 unfolding active_minus1
 own-few b s at {m} h = leb→le m.value 31 (number_passed (λ n. leb n 31) 21 pos ue s at tt b h)
 

@@ -13,7 +13,6 @@ use Rattle.fmt.specs.Fmt.{Fmt}
 use Rattle.table.specs.declared.table.Table.{Table}
 use Rattle.syntax.specs.declared.context.UnitKind.{UnitKind}
 use Rattle.syntax.specs.declared.context.Context.{Context}
-use Rattle.syntax.specs.declared.marks.MarkedFlag.{MarkedFlag}
 use Rattle.syntax.specs.declared.record.ActiveCounts.{ActiveCounts}
 use Rattle.syntax.specs.declared.record.Operations.{Operations}
 use Rattle.syntax.specs.declared.record.Modifications.{Modifications}
@@ -41,6 +40,8 @@ use Rattle.header.specs.Told.{Kept, front_of, EachFront, behind}
 use Rattle.header.proofs.Split.{modifications_of, marking_of, modifications-split, marking-split}
 use Rattle.header.proofs.Counts.{led_at}
 use Rattle.header.proofs.Parts.{front_read}
+use Rattle.syntax.specs.declared.marks.Marked.{Marked}
+use Rattle.std.specs.Prelude.{Bool}
 
 ends : {A : Type 0} {a b : A} {d e : ℕ} → got a d ≡ got b e → d ≡ e
 ends p = cc
@@ -57,7 +58,7 @@ abbrev On : {A : Type 0} → (Bits → ℕ → Res A) → Bits → Bits → A �
 On reads s t a at e = (reads (s ++ t) at ≡ got a e) × (e ≤ length s)
 
 module _ (x : Context) (k : ℕ) (s t : Bits) (at : ℕ) (m : at ≤ length s) where
-  first_on : {g : MarkedFlag} {c : ℕ} → first_flag_at x k s at ≡ got g c → On (first_flag_at x k) s t g at c
+  first_on : {g : (Marked Bool)} {c : ℕ} → first_flag_at x k s at ≡ got g c → On (first_flag_at x k) s t g at c
   unfolding first_flag_at
   first_on h =
       under ((not_scalable x).read s at) _ h (λ v d hv q.
@@ -95,7 +96,7 @@ led_on x s t at m h =
 
 -- ---- the lists of the parts
 
-module _ (x : Context) (k : ℕ) (s : Bits) (at : ℕ) {g : MarkedFlag} {c : ℕ} (hg : first_flag_at x k s at ≡ got g c) (b w : List ℕ) where
+module _ (x : Context) (k : ℕ) (s : Bits) (at : ℕ) {g : (Marked Bool)} {c : ℕ} (hg : first_flag_at x k s at ≡ got g c) (b w : List ℕ) where
   pub l0-covered : Covered list_words (operations_if g.value (modification_kind x.kind.mvc)) s c b w → Covered (λ m. list_words m.l0.operations) (modifications x k) s at b w
   unfolding Covered
   l0-covered C i t m e q =
@@ -106,7 +107,7 @@ module _ (x : Context) (k : ℕ) (s : Bits) (at : ℕ) {g : MarkedFlag} {c : ℕ
       let u : modifications_of g o h r ≡ m = cc in
       rw (← u) (C p.1 t o d ho))))
 
-  pub l1-covered : {o : Operations} {d : ℕ} → (operations_if g.value (modification_kind x.kind.mvc)).read s c ≡ got o d → {h : MarkedFlag} {f : ℕ} → (flag_if (is_b k)).read s d ≡ got h f
+  pub l1-covered : {o : Operations} {d : ℕ} → (operations_if g.value (modification_kind x.kind.mvc)).read s c ≡ got o d → {h : (Marked Bool)} {f : ℕ} → (flag_if (is_b k)).read s d ≡ got h f
       → Covered list_words (operations_if h.value (modification_kind x.kind.mvc)) s f b w → Covered (λ m. list_words m.l1.operations) (modifications x k) s at b w
   unfolding Covered
   l1-covered {o} {d} ho {h} {f} hh C i t m e q =

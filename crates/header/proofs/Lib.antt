@@ -1,5 +1,4 @@
 pub mod Sets
-pub mod Unique
 pub mod Split
 pub mod Counts
 pub mod Told

@@ -5,7 +5,6 @@ use Rattle.bits.specs.declared.refusals.Refusal.{Refusal}
 use Rattle.bits.specs.Refusals.{got, no}
 use Rattle.bits.specs.Bits.{Bits}
 use Rattle.syntax.specs.declared.context.Context.{Context}
-use Rattle.syntax.specs.declared.marks.MarkedFlag.{MarkedFlag}
 use Rattle.syntax.specs.declared.record.Operations.{Operations}
 use Rattle.syntax.specs.Marks.{flag_if}
 use Rattle.syntax.specs.Lists.{operations_if}
@@ -17,12 +16,14 @@ use Rattle.header.specs.Short.{lists_of, marks_of}
 use Rattle.header.specs.declared.slice.Lists.{Lists}
 use Rattle.header.specs.declared.slice.Marks.{Marks}
 use Rattle.header.proofs.Split.{modifications_of, marking_of, modifications-split, marking-split}
+use Rattle.syntax.specs.declared.marks.Marked.{Marked}
+use Rattle.std.specs.Prelude.{Bool}
 
 module _ (x : Context) (k : ℕ) (s : Bits) (at : ℕ) where
   pub first-no : {r : Refusal} → first_flag_at x k s at ≡ no r → (modifications x k).read s at ≡ no r
   first-no z = rw (modifications-split x k s at, z)
 
-  module _ {g : MarkedFlag} {c : ℕ} (hg : first_flag_at x k s at ≡ got g c) where
+  module _ {g : (Marked Bool)} {c : ℕ} (hg : first_flag_at x k s at ≡ got g c) where
     pub l0-no : {r : Refusal} → (operations_if g.value (modification_kind x.kind.mvc)).read s c ≡ no r → (modifications x k).read s at ≡ no r
     l0-no z = rw (modifications-split x k s at, hg, z)
 
@@ -30,7 +31,7 @@ module _ (x : Context) (k : ℕ) (s : Bits) (at : ℕ) where
       pub second-no : {r : Refusal} → (flag_if (is_b k)).read s d ≡ no r → (modifications x k).read s at ≡ no r
       second-no z = rw (modifications-split x k s at, hg, ho, z)
 
-      module _ {h : MarkedFlag} {e : ℕ} (hh : (flag_if (is_b k)).read s d ≡ got h e) where
+      module _ {h : (Marked Bool)} {e : ℕ} (hh : (flag_if (is_b k)).read s d ≡ got h e) where
         pub l1-no : {r : Refusal} → (operations_if h.value (modification_kind x.kind.mvc)).read s e ≡ no r → (modifications x k).read s at ≡ no r
         l1-no z = rw (modifications-split x k s at, hg, ho, hh, z)
 
@@ -52,7 +53,7 @@ module _ (x : Context) (s : Bits) (at : ℕ) where
 
 -- the code's own parts, from the counts that it has
 
-pub lists-same : {g h : MarkedFlag} (o p : Operations) {m n : ℕ} → m ≡ o.count → n ≡ p.count
+pub lists-same : {g h : (Marked Bool)} (o p : Operations) {m n : ℕ} → m ≡ o.count → n ≡ p.count
     → ◌≡◌ {A = Lists} (record { flag0 = g; count0 = m; flag1 = h; count1 = n }) (lists_of (modifications_of g o h p))
 lists-same o p h k = rw (h, k)
 

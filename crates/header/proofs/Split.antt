@@ -6,7 +6,6 @@ use Rattle.bits.specs.Bits.{Bits}
 use Rattle.bits.proofs.Results.{bind-bind}
 use Rattle.fmt.specs.Fmt.{seq, shaped}
 use Rattle.syntax.specs.declared.context.Context.{Context}
-use Rattle.syntax.specs.declared.marks.MarkedFlag.{MarkedFlag}
 use Rattle.syntax.specs.declared.record.Operations.{Operations}
 use Rattle.syntax.specs.declared.record.Modifications.{Modifications}
 use Rattle.syntax.specs.declared.record.PredWeightTable.{PredWeightTable}
@@ -17,8 +16,10 @@ use Rattle.syntax.specs.Context.{is_b}
 use Rattle.syntax.specs.SliceHeader.{Parts, parts, modification_kind, modification, modifications, pred_weight_table, marking_kind, dec_ref_pic_marking, active_l0, active_l1}
 use Rattle.header.specs.declared.stages.MarkingFlags.{MarkingFlags}
 use Rattle.header.specs.Stages.{FrontParts, BackParts, front_at, first_flag_at, marking_flags_at, back_at}
+use Rattle.syntax.specs.declared.marks.Marked.{Marked}
+use Rattle.std.specs.Prelude.{Bool}
 
-abbrev pub modifications_of : MarkedFlag → Operations → MarkedFlag → Operations → Modifications
+abbrev pub modifications_of : (Marked Bool) → Operations → (Marked Bool) → Operations → Modifications
 modifications_of g o h p = record { l0 = record { flag = g; operations = o }; l1 = record { flag = h; operations = p } }
 
 abbrev pub marking_of : MarkingFlags → Operations → DecRefPicMarking

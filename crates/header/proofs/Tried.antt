@@ -9,7 +9,6 @@ use lib.Seq.{take_all}
 use Rattle.bits.specs.declared.refusals.Refusal.{Refusal}
 use Rattle.bits.specs.declared.read.Cursor.{Cursor}
 use Rattle.bits.specs.Refusals.{Res, got, no}
-use Rattle.fields.specs.declared.step.End.{End}
 use Rattle.table.specs.declared.table.Table.{Table}
 use Rattle.syntax.specs.declared.context.UnitKind.{UnitKind}
 use Rattle.syntax.specs.declared.record.SliceHeader.{SliceHeader}
@@ -20,12 +19,13 @@ use Rattle.cut.proofs.Fronts.{not_five, not-22, near-got, near-no}
 use Rattle.header.specs.Short.{HeaderWords}
 use Rattle.header.specs.Told.{Filled, Kept}
 use Rattle.header.proofs.Told.{filled-as}
+use Rattle.std.specs.Prelude.{Result, Ok, Err}
 
 -- the unit's bits are those of its first bytes and more
 whole_is : (t : Table) (n : UnitKind) (unit : List ℕ) → read_header t n (body_bits unit 0) ≡ read_header t n (body_bits (take near unit) 0 ++ behind_bits unit 0 near)
 whole_is t n unit = ap (read_header t n) (cut_all unit near)
 
-module _ (t : Table) (n : UnitKind) (unit : List ℕ) (a : End) (b w : HeaderWords) where
+module _ (t : Table) (n : UnitKind) (unit : List ℕ) (a : Result Cursor Refusal) (b w : HeaderWords) where
   abbrev Near : Res SliceHeader
   Near = read_header t n (body_bits (take near unit) 0)
 
@@ -33,23 +33,23 @@ module _ (t : Table) (n : UnitKind) (unit : List ℕ) (a : End) (b w : HeaderWor
   Whole = read_header t n (body_bits unit 0)
 
   -- a header that was read from them
-  pub tried-got : Filled (read_header t n (body_bits (take near unit) 0)) a b w → (c : Cursor) → a ≡ End.At c → Filled (read_header t n (body_bits unit 0)) a b w
+  pub tried-got : Filled (read_header t n (body_bits (take near unit) 0)) a b w → (c : Cursor) → a ≡ Ok c → Filled (read_header t n (body_bits unit 0)) a b w
   unfolding Filled
   tried-got f c e = go Near refl f
     where
       go : (m : Res SliceHeader) → read_header t n (body_bits (take near unit) 0) ≡ m → Filled m a b w → Filled (read_header t n (body_bits unit 0)) a b w
       go (got h d) q g = filled-as a b w (whole_is t n unit ∙ near-got t n (body_bits (take near unit) 0) (behind_bits unit 0 near) h d q) g
-      go (no x) q g = let y : End.At c ≡ End.Refused x = sym e ∙ g in absurd (let z : ◌≡◌ {A = ℕ} 0 1 = cc in omega arith)
+      go (no x) q g = let y : Ok c ≡ Err x = sym e ∙ g in absurd (let z : ◌≡◌ {A = ℕ} 0 1 = cc in omega arith)
 
   -- a refusal that more bits do not change
-  pub tried-no : Filled (read_header t n (body_bits (take near unit) 0)) a b w → (x : Refusal) → a ≡ End.Refused x → may_change x ≡ false → Filled (read_header t n (body_bits unit 0)) a b w
+  pub tried-no : Filled (read_header t n (body_bits (take near unit) 0)) a b w → (x : Refusal) → a ≡ Err x → may_change x ≡ false → Filled (read_header t n (body_bits unit 0)) a b w
   unfolding Filled
   tried-no f x e u = go Near refl f
     where
       go : (m : Res SliceHeader) → read_header t n (body_bits (take near unit) 0) ≡ m → Filled m a b w → Filled (read_header t n (body_bits unit 0)) a b w
-      go (got h d) q g = let y : End.Refused x ≡ End.At (record { at = d }) = sym e ∙ g.0 in absurd (let z : ◌≡◌ {A = ℕ} 0 1 = cc in omega arith)
+      go (got h d) q g = let y : Err x ≡ Ok (record { at = d }) = sym e ∙ g.0 in absurd (let z : ◌≡◌ {A = ℕ} 0 1 = cc in omega arith)
       go (no y) q g =
-          let v : End.Refused x ≡ End.Refused y = sym e ∙ g in
+          let v : Err x ≡ Err y = sym e ∙ g in
           let r : x ≡ y = cc in
           filled-as a b w (whole_is t n unit ∙ near-no t n (body_bits (take near unit) 0) (behind_bits unit 0 near) y q (not_five y (rw r at u)) (not-22 y (rw r at u))) g
 

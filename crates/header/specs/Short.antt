@@ -5,8 +5,6 @@ use Rattle.std.specs.Borrow.{MutBor}
 use denote.Triple.Both.{Both}
 use Rattle.bits.specs.Refusals.{Res, got, no}
 use Rattle.fmt.specs.Arrays.{pad}
-use Rattle.syntax.specs.declared.marks.MarkedFlag.{MarkedFlag}
-use Rattle.syntax.specs.declared.marks.MarkedNumber.{MarkedNumber}
 use Rattle.syntax.specs.declared.record.Frame.{Frame}
 use Rattle.syntax.specs.declared.record.OrderCount.{OrderCount}
 use Rattle.syntax.specs.declared.record.ActiveCounts.{ActiveCounts}
@@ -15,13 +13,17 @@ use Rattle.syntax.specs.declared.record.DecRefPicMarking.{DecRefPicMarking}
 use Rattle.syntax.specs.declared.record.Quantiser.{Quantiser}
 use Rattle.syntax.specs.declared.record.Filter.{Filter}
 use Rattle.syntax.specs.declared.record.SliceHeader.{SliceHeader}
-use Rattle.fields.specs.declared.step.End.{End}
 use Rattle.lists.specs.ListsLent.{list_words, emptied_list}
 use Rattle.weights.specs.declared.weight_words.WeightsShort.{WeightsShort}
 use Rattle.weights.specs.WeightsLent.{weight_words, weights_short, emptied_weights}
 use Rattle.header.specs.declared.stages.MarkingFlags.{MarkingFlags}
 use Rattle.header.specs.declared.slice.Lists.{Lists}
 use Rattle.header.specs.declared.slice.Marks.{Marks}
+use Rattle.header.specs.declared.slice.Words.{Words}
+use Rattle.std.specs.Prelude.{Result, Ok, Err}
+use Rattle.syntax.specs.declared.marks.Marked.{Marked}
+use Rattle.bits.specs.declared.read.Cursor.{Cursor}
+use Rattle.bits.specs.declared.refusals.Refusal.{Refusal}
 
 -- what the code hands on of the parts with lists: of each list the count
 
@@ -45,10 +47,10 @@ abbrev pub bit : Bool → ℕ
 bit true = 1
 bit false = 0
 
-abbrev pub number_words : MarkedNumber → List ℕ
+abbrev pub number_words : (Marked ℕ) → List ℕ
 number_words m = bit m.there ∷ m.value ∷ []
 
-abbrev pub flag_words : MarkedFlag → List ℕ
+abbrev pub flag_words : (Marked Bool) → List ℕ
 flag_words m = bit m.there ∷ bit m.value ∷ []
 
 -- of each part its numbers, flags, and the marks of signed numbers
@@ -111,9 +113,9 @@ signed_of h = order_signed h.order_count ++ (quantiser_signed h.quantiser ++ fil
 
 -- ---- what reading says, and what it leaves in the words
 
-unfoldable pub header_end : Res SliceHeader → End
-header_end (got h e) = End.At (record { at = e })
-header_end (no r) = End.Refused r
+unfoldable pub header_end : Res SliceHeader → Result Cursor Refusal
+header_end (got h e) = Ok (record { at = e })
+header_end (no r) = Err r
 
 pub record HeaderWords : Type 0 where
   pub numbers : List ℕ
@@ -135,6 +137,21 @@ header_words numbers signed l0 l1 marking w0 w1 =
       entry = record { numbers = numbers.entry.now; signed = signed.entry.now; l0 = l0.entry.now; l1 = l1.entry.now; marking = marking.entry.now; w0 = w0.entry.now; w1 = w1.entry.now };
       exit = record { numbers = numbers.exit.now; signed = signed.exit.now; l0 = l0.exit.now; l1 = l1.exit.now; marking = marking.exit.now; w0 = w0.exit.now; w1 = w1.exit.now };
     }
+
+-- what the arrays of a struct of them hold
+abbrev pub words_in : Words → HeaderWords
+words_in w = record { numbers = w.numbers.now; signed = w.signed.now; l0 = w.l0.now; l1 = w.l1.now; marking = w.marking.now; w0 = w.w0.now; w1 = w.w1.now }
+
+-- two such structs lend the same arrays
+abbrev pub SameArrays : Words → Words → Type 0
+SameArrays a b =
+    (a.numbers.ghost_name ≡ b.numbers.ghost_name)
+    × (a.signed.ghost_name ≡ b.signed.ghost_name)
+    × (a.l0.ghost_name ≡ b.l0.ghost_name)
+    × (a.l1.ghost_name ≡ b.l1.ghost_name)
+    × (a.marking.ghost_name ≡ b.marking.ghost_name)
+    × (a.w0.ghost_name ≡ b.w0.ghost_name)
+    × (a.w1.ghost_name ≡ b.w1.ghost_name)
 
 -- the entries that the counts among the numbers say are in use are zeroed, and no more: nothing of a header that stood there is left behind the next one's lists
 unfoldable pub emptied : HeaderWords → HeaderWords

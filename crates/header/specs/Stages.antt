@@ -1,13 +1,10 @@
 -- The parts after pic_parameter_set_id in stages, and what the code's answers say of them. They are the code's own: the contract of reading the header
 -- does not name them.
 use Rattle.std.specs.Prelude.{ℕ, not, ◌&&◌}
-use Rattle.bits.specs.Refusals.{Res, got, no, bind}
-use Rattle.bits.specs.Answers.{none}
+use Rattle.bits.specs.Refusals.{Res, got, bind}
 use Rattle.bits.specs.Bits.{Bits}
-use Rattle.bits.specs.declared.refusals.Refusal.{Refusal}
 use Rattle.syntax.specs.declared.context.UnitKind.{UnitKind}
 use Rattle.syntax.specs.declared.context.Context.{Context}
-use Rattle.syntax.specs.declared.marks.MarkedFlag.{MarkedFlag}
 use Rattle.syntax.specs.declared.record.Frame.{Frame}
 use Rattle.syntax.specs.declared.record.OrderCount.{OrderCount}
 use Rattle.syntax.specs.declared.record.ActiveCounts.{ActiveCounts}
@@ -22,7 +19,8 @@ use Rattle.syntax.specs.Context.{has_l0}
 use Rattle.syntax.specs.SliceHeader.{frame, order_count, active_counts, not_scalable, quantiser, filter}
 use Rattle.header.specs.declared.lead.Led.{Led}
 use Rattle.header.specs.declared.stages.MarkingFlags.{MarkingFlags}
-use Rattle.header.specs.declared.stages.MarkingStep.{MarkingStep}
+use Rattle.syntax.specs.declared.marks.Marked.{Marked}
+use Rattle.std.specs.Prelude.{Bool}
 
 -- colour_plane_id to num_ref_idx_l1_active_minus1
 pub record FrontParts : Type 0 where
@@ -44,7 +42,7 @@ module _ (x : Context) (k : ℕ) where
       got (record { frame = f; order_count = o; active_counts = a }) e)))
 
   -- the test of a scalable slice, and ref_pic_list_modification_flag_l0
-  unfoldable pub first_flag_at : Bits → ℕ → Res MarkedFlag
+  unfoldable pub first_flag_at : Bits → ℕ → Res (Marked Bool)
   first_flag_at s at = bind ((not_scalable x).read s at) (λ v c. (flag_if (has_l0 k)).read s c)
 
   unfoldable pub back_at : Bits → ℕ → Res BackParts
@@ -81,11 +79,3 @@ header_of l f m w d b =
       quantiser = b.quantiser;
       filter = b.filter;
     }
-
-abbrev pub as_marking : MarkingStep → Res MarkingFlags
-as_marking (MarkingStep.Got m c) = got m c.at
-as_marking (MarkingStep.Refused r) = no r
-
-abbrev pub why_marking : MarkingStep → Refusal
-why_marking (MarkingStep.Got m c) = none
-why_marking (MarkingStep.Refused r) = r

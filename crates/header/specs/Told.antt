@@ -4,7 +4,6 @@ use Rattle.std.proofs.lemmas.List.Edits.{sets}
 use Rattle.bits.specs.declared.refusals.Refusal.{Refusal}
 use Rattle.bits.specs.Bits.{Bits}
 use Rattle.bits.specs.Refusals.{Res, got, no, bind, pick, refusal_at}
-use Rattle.bits.specs.Answers.{none}
 use Rattle.syntax.specs.declared.context.UnitKind.{UnitKind}
 use Rattle.syntax.specs.declared.record.Frame.{Frame}
 use Rattle.syntax.specs.declared.record.OrderCount.{OrderCount}
@@ -16,48 +15,41 @@ use Rattle.syntax.specs.SliceHeader.{modifications, pred_weight_table, dec_ref_p
 use Rattle.weights.specs.Counts.{at_most32}
 use Rattle.header.specs.declared.lead.Led.{Led}
 use Rattle.header.specs.Stages.{FrontParts, BackParts, context_of, header_of, back_at}
-use Rattle.fields.specs.declared.step.End.{End}
-use Rattle.parts.specs.declared.counts.ActiveCountsStep.{ActiveCountsStep}
 use Rattle.lists.specs.ListsLent.{list_words}
 use Rattle.header.specs.Short.{HeaderWords, header_in, lists_of, marks_of, frame_numbers, order_numbers, count_numbers, order_signed, quantiser_numbers, quantiser_signed, filter_numbers, filter_signed}
-use Rattle.header.specs.declared.slice.ListsStep.{ListsStep}
-use Rattle.header.specs.declared.slice.MarksStep.{MarksStep}
+use Rattle.std.specs.Prelude.{Result, Ok, Err}
+use Rattle.bits.specs.Answers.{Read}
+use Rattle.bits.specs.declared.read.Cursor.{Cursor}
+use Rattle.header.specs.declared.slice.Lists.{Lists}
+use Rattle.header.specs.declared.slice.Marks.{Marks}
 
 abbrev pub front_numbers : FrontParts → List ℕ
 front_numbers f = frame_numbers f.frame ++ (order_numbers f.order_count ++ count_numbers f.active_counts)
 
-abbrev pub why_lists : ListsStep → Refusal
-why_lists (ListsStep.Got l c) = none
-why_lists (ListsStep.Refused r) = r
-
-abbrev pub why_marks : MarksStep → Refusal
-why_marks (MarksStep.Got m c) = none
-why_marks (MarksStep.Refused r) = r
-
 -- ---- the parts without lists: beside a refusal nothing is said of the words
 
-unfoldable pub FrontTold : Res FrontParts → ActiveCountsStep → (numbers : List ℕ) (signed : List ℤ) (after : List ℕ) (afterSigned : List ℤ) → Type 0
+unfoldable pub FrontTold : Res FrontParts → Read ActiveCounts → (numbers : List ℕ) (signed : List ℤ) (after : List ℕ) (afterSigned : List ℤ) → Type 0
 FrontTold (got f e) a n z m y =
-    (a ≡ ActiveCountsStep.Got f.active_counts (record { at = e }))
+    (a ≡ Ok (f.active_counts, record { at = e }))
     × ((m ≡ sets n 4 (front_numbers f)) × (y ≡ sets z 0 (order_signed f.order_count)))
-FrontTold (no r) a n z m y = a ≡ ActiveCountsStep.Refused r
+FrontTold (no r) a n z m y = a ≡ Err r
 
-unfoldable pub BackTold : Res BackParts → End → (numbers : List ℕ) (signed : List ℤ) (after : List ℕ) (afterSigned : List ℤ) → Type 0
+unfoldable pub BackTold : Res BackParts → Result Cursor Refusal → (numbers : List ℕ) (signed : List ℤ) (after : List ℕ) (afterSigned : List ℤ) → Type 0
 BackTold (got b e) a n z m y =
-    (a ≡ End.At (record { at = e }))
+    (a ≡ Ok (record { at = e }))
     × ((m ≡ sets n 46 (quantiser_numbers b.quantiser ++ filter_numbers b.filter)) × (y ≡ sets z 3 (quantiser_signed b.quantiser ++ filter_signed b.filter)))
-BackTold (no r) a n z m y = a ≡ End.Refused r
+BackTold (no r) a n z m y = a ≡ Err r
 
 -- ---- the parts with lists
 
-unfoldable pub ListsTold : Res Modifications → ListsStep → (before0 before1 l0 l1 : List ℕ) → Type 0
+unfoldable pub ListsTold : Res Modifications → Read Lists → (before0 before1 l0 l1 : List ℕ) → Type 0
 ListsTold (got m e) a b0 b1 l0 l1 =
-    (a ≡ ListsStep.Got (lists_of m) (record { at = e })) × ((l0 ≡ sets b0 0 (list_words m.l0.operations)) × (l1 ≡ sets b1 0 (list_words m.l1.operations)))
-ListsTold (no r) a b0 b1 l0 l1 = a ≡ ListsStep.Refused r
+    (a ≡ Ok ((lists_of m), record { at = e })) × ((l0 ≡ sets b0 0 (list_words m.l0.operations)) × (l1 ≡ sets b1 0 (list_words m.l1.operations)))
+ListsTold (no r) a b0 b1 l0 l1 = a ≡ Err r
 
-unfoldable pub MarksTold : Res DecRefPicMarking → MarksStep → (before words : List ℕ) → Type 0
-MarksTold (got d e) a before words = (a ≡ MarksStep.Got (marks_of d) (record { at = e })) × (words ≡ sets before 0 (list_words d.operations))
-MarksTold (no r) a before words = a ≡ MarksStep.Refused r
+unfoldable pub MarksTold : Res DecRefPicMarking → Read Marks → (before words : List ℕ) → Type 0
+MarksTold (got d e) a before words = (a ≡ Ok ((marks_of d), record { at = e })) × (words ≡ sets before 0 (list_words d.operations))
+MarksTold (no r) a before words = a ≡ Err r
 
 -- ---- the header
 
@@ -91,6 +83,6 @@ EachFront a P = (f : Frame) (o : OrderCount) → P (front_of f o a)
 unfoldable pub Kept : (Bits → Res SliceHeader) → (before words : HeaderWords) → Type 0
 Kept reads before words = (t : Bits) (h : SliceHeader) (e : ℕ) → reads t ≡ got h e → header_in h words ≡ header_in h before
 
-unfoldable pub Filled : Res SliceHeader → End → (before words : HeaderWords) → Type 0
-Filled (got h e) a before words = (a ≡ End.At (record { at = e })) × (words ≡ header_in h before)
-Filled (no r) a before words = a ≡ End.Refused r
+unfoldable pub Filled : Res SliceHeader → Result Cursor Refusal → (before words : HeaderWords) → Type 0
+Filled (got h e) a before words = (a ≡ Ok (record { at = e })) × (words ≡ header_in h before)
+Filled (no r) a before words = a ≡ Err r

@@ -3,12 +3,13 @@ ghost use Rattle.std.specs.Prelude.{◌≡◌, ◌++◌, ◌≤◌, length, take
 ghost use Rattle.syntax.specs.SliceHeader.{read_header};
 ghost use Rattle.cut.specs.Seam.{body_bits, near};
 ghost use Rattle.header.specs.Lead.{table_of};
-ghost use Rattle.header.specs.Short.{header_words, header_end, header_left};
+ghost use Rattle.header.specs.Short.{words_in, SameArrays, header_end, header_left};
 ghost use Rattle.header.specs.Told.{Filled, Kept};
 
-use crate::slice::{clear_header, empty_lists, fill};
+use crate::slice::{Words, fill};
+use bits::read::Cursor;
+use bits::refusals::Refusal;
 use cut::part::{NEAR, far_body, may_change, near_body};
-use fields::step::End;
 use syntax::context::UnitKind;
 
 fn fill_near<'a>(
@@ -16,32 +17,15 @@ fn fill_near<'a>(
     kind: UnitKind,
     sequences: &'a [u32; 224],
     pictures: &'a [u32; 2304],
-    numbers: &mut [u32; 57],
-    signed: &mut [i32; 7],
-    l0: &mut [u32; 198],
-    l1: &mut [u32; 198],
-    marking: &mut [u32; 198],
-    w0: &mut [i32; 256],
-    w1: &mut [i32; 256],
-) -> End
-    ensures filled { Filled (read_header (table_of sequences.now pictures.now) kind (body_bits (take near unit.now) 0)) result (header_words numbers signed l0 l1 marking w0 w1).entry (header_words numbers signed l0 l1 marking w0 w1).exit }
-    ensures kept { Kept (λ t. read_header (table_of sequences.now pictures.now) kind (body_bits (take near unit.now) 0 ++ t)) (header_words numbers signed l0 l1 marking w0 w1).entry (header_words numbers signed l0 l1 marking w0 w1).exit }
+    w: &mut Words<'_>,
+) -> Result<Cursor, Refusal>
+    ensures filled { Filled (read_header (table_of sequences.now pictures.now) kind (body_bits (take near unit.now) 0)) result (words_in w.old) (words_in w.new) }
+    ensures kept { Kept (λ t. read_header (table_of sequences.now pictures.now) kind (body_bits (take near unit.now) 0 ++ t)) (words_in w.old) (words_in w.new) }
+    ensures same { SameArrays w.old w.new }
 {
     let mut local = [0u8; 130];
     let n = near_body(unit, 0, &mut local);
-    fill(
-        &local[..n],
-        kind,
-        sequences,
-        pictures,
-        numbers,
-        signed,
-        l0,
-        l1,
-        marking,
-        w0,
-        w1,
-    )
+    fill(&local[..n], kind, sequences, pictures, w)
 }
 
 fn fill_far<'a>(
@@ -49,31 +33,14 @@ fn fill_far<'a>(
     kind: UnitKind,
     sequences: &'a [u32; 224],
     pictures: &'a [u32; 2304],
-    numbers: &mut [u32; 57],
-    signed: &mut [i32; 7],
-    l0: &mut [u32; 198],
-    l1: &mut [u32; 198],
-    marking: &mut [u32; 198],
-    w0: &mut [i32; 256],
-    w1: &mut [i32; 256],
-) -> End
-    ensures { Filled (read_header (table_of sequences.now pictures.now) kind (body_bits unit.now 0)) result (header_words numbers signed l0 l1 marking w0 w1).entry (header_words numbers signed l0 l1 marking w0 w1).exit }
+    w: &mut Words<'_>,
+) -> Result<Cursor, Refusal>
+    ensures filled { Filled (read_header (table_of sequences.now pictures.now) kind (body_bits unit.now 0)) result (words_in w.old) (words_in w.new) }
+    ensures same { SameArrays w.old w.new }
 {
     let mut local = [0u8; 12289];
     let n = far_body(unit, 0, &mut local);
-    fill(
-        &local[..n],
-        kind,
-        sequences,
-        pictures,
-        numbers,
-        signed,
-        l0,
-        l1,
-        marking,
-        w0,
-        w1,
-    )
+    fill(&local[..n], kind, sequences, pictures, w)
 }
 
 // Nothing is cleared between the two: a header that is read from the larger part has every entry that was read from the smaller one, and so stands over them.
@@ -82,20 +49,13 @@ fn fill_by_parts<'a>(
     kind: UnitKind,
     sequences: &'a [u32; 224],
     pictures: &'a [u32; 2304],
-    numbers: &mut [u32; 57],
-    signed: &mut [i32; 7],
-    l0: &mut [u32; 198],
-    l1: &mut [u32; 198],
-    marking: &mut [u32; 198],
-    w0: &mut [i32; 256],
-    w1: &mut [i32; 256],
-) -> End
-    ensures { Filled (read_header (table_of sequences.now pictures.now) kind (body_bits unit.now 0)) result (header_words numbers signed l0 l1 marking w0 w1).entry (header_words numbers signed l0 l1 marking w0 w1).exit }
+    w: &mut Words<'_>,
+) -> Result<Cursor, Refusal>
+    ensures filled { Filled (read_header (table_of sequences.now pictures.now) kind (body_bits unit.now 0)) result (words_in w.old) (words_in w.new) }
+    ensures same { SameArrays w.old w.new }
 {
-    let a = fill_near(
-        unit, kind, sequences, pictures, numbers, signed, l0, l1, marking, w0, w1,
-    );
-    let End::Refused(r) = a else {
+    let a = fill_near(unit, kind, sequences, pictures, w);
+    let Err(r) = a else {
         return a;
     };
     if unit.len() <= NEAR {
@@ -104,9 +64,7 @@ fn fill_by_parts<'a>(
     if !may_change(r) {
         return a;
     }
-    fill_far(
-        unit, kind, sequences, pictures, numbers, signed, l0, l1, marking, w0, w1,
-    )
+    fill_far(unit, kind, sequences, pictures, w)
 }
 
 // A start behind a unit's end is its end.
@@ -125,34 +83,17 @@ pub fn read_escaped_into<'a>(
     kind: UnitKind,
     sequences: &'a [u32; 224],
     pictures: &'a [u32; 2304],
-    numbers: &mut [u32; 57],
-    signed: &mut [i32; 7],
-    l0: &mut [u32; 198],
-    l1: &mut [u32; 198],
-    marking: &mut [u32; 198],
-    w0: &mut [i32; 256],
-    w1: &mut [i32; 256],
-) -> End
+    w: &mut Words<'_>,
+) -> Result<Cursor, Refusal>
     ensures value { result ≡ header_end (read_header (table_of sequences.now pictures.now) kind (body_bits unit.now from)) }
-    ensures w1_value { (header_words numbers signed l0 l1 marking w0 w1).exit ≡ header_left (read_header (table_of sequences.now pictures.now) kind (body_bits unit.now from)) (header_words numbers signed l0 l1 marking w0 w1).entry }
+    ensures words { words_in w.new ≡ header_left (read_header (table_of sequences.now pictures.now) kind (body_bits unit.now from)) (words_in w.old) }
+    ensures same { SameArrays w.old w.new }
 {
-    empty_lists(numbers, signed, l0, l1, marking, w0, w1);
+    w.empty_lists();
     let start = start_in(unit, from);
-    let a = fill_by_parts(
-        &unit[start..],
-        kind,
-        sequences,
-        pictures,
-        numbers,
-        signed,
-        l0,
-        l1,
-        marking,
-        w0,
-        w1,
-    );
-    let End::At(_) = a else {
-        clear_header(numbers, signed, l0, l1, marking, w0, w1);
+    let a = fill_by_parts(&unit[start..], kind, sequences, pictures, w);
+    let Ok(_) = a else {
+        w.clear();
         return a;
     };
     a

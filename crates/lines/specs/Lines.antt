@@ -3,7 +3,6 @@ use Rattle.std.specs.Prelude.{ℕ, ◌≤◌, ◌≡◌, List, [], ◌++◌, Boo
 use Rattle.std.proofs.lemmas.List.Edits.{sets}
 use Rattle.bits.specs.Refusals.{pick}
 use Rattle.bits.specs.declared.refusals.Refusal.{Refusal}
-use Rattle.nal.specs.declared.extension.ExtensionRead.{ExtensionRead}
 use Rattle.nal.specs.Extension as extension
 use Rattle.nal.specs.Extension.{extension_of}
 use Rattle.syntax.specs.declared.record.SliceHeader.{SliceHeader}
@@ -12,11 +11,13 @@ use Rattle.unit.specs.declared.answer.UnitRead.{UnitRead}
 use Rattle.unit.specs.declared.into.ShortAnswer.{ShortAnswer}
 use Rattle.lines.specs.Level.{final_qp}
 use Rattle.lines.specs.Text.{words, signed, field}
+use Rattle.std.specs.Prelude.{Result, Ok, Err}
+use Rattle.nal.specs.declared.extension.NalHeaderExtension.{NalHeaderExtension}
 
 -- the extension is SVC's; a prefix unit has one
-abbrev pub svc_in : ExtensionRead → Bool
-svc_in (ExtensionRead.Got e) = extension.is_svc e
-svc_in (ExtensionRead.Refused r) = false
+abbrev pub svc_in : Result NalHeaderExtension Refusal → Bool
+svc_in (Ok e) = extension.is_svc e
+svc_in (Err r) = false
 
 unfoldable pub is_svc : List ℕ → Bool
 is_svc unit = svc_in (extension_of unit)

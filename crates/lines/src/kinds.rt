@@ -8,9 +8,10 @@ ghost use Rattle.lines.specs.Kinds.{hex_digit, hex_text, extension_text, kind_te
 
 use crate::line::refused_words;
 use crate::text::{field, words};
+use bits::refusals::Refusal;
 use nal::extension::NalHeaderExtension;
 use unit::begin::has_extension;
-use unit::head::{HeadRead, UnitHead};
+use unit::head::UnitHead;
 
 fn hex_digit(n: u8) -> u8
     requires { n < 16 }
@@ -70,18 +71,23 @@ fn kind_words(d: &mut [u8; 128], at: usize, h: UnitHead) -> usize
     extension_words_if(d, b, h)
 }
 
-fn head_words(d: &mut [u8; 128], at: usize, a: HeadRead) -> usize
+fn head_words(d: &mut [u8; 128], at: usize, a: Result<UnitHead, Refusal>) -> usize
     requires { at ≤ 59 }
     ensures { Put d.old at (head_text a) result d.new × (result ≤ 127) }
 {
     match a {
-        HeadRead::Got(h) => kind_words(d, at, h),
-        HeadRead::Refused(r) => refused_words(d, at, r),
+        Ok(h) => kind_words(d, at, h),
+        Err(r) => refused_words(d, at, r),
     }
 }
 
 // A unit's line: its place, its length, and what its head says.
-pub fn head_line(line: &mut [u8; 128], place: usize, length: usize, answer: HeadRead) -> usize
+pub fn head_line(
+    line: &mut [u8; 128],
+    place: usize,
+    length: usize,
+    answer: Result<UnitHead, Refusal>,
+) -> usize
     ensures { Written (head_line place length answer) line.old result line.new }
 {
     let a = field(line, 0, b"unit place=", place as u64);

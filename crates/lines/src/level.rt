@@ -3,14 +3,14 @@ ghost use Rattle.std.specs.Prelude.{◌≡◌};
 ghost use Rattle.lines.specs.Level.{init_qp, init_qs, final_qp, final_qs};
 
 use fields::quant::level;
-use table::words::{FoundPicture, picture_in};
+use table::words::picture_in;
 
 fn init_qp(pictures: &[u32; 2304], id: u32) -> i32
     ensures { result ≡ init_qp pictures.now id }
 {
     match picture_in(pictures, id) {
-        FoundPicture::There(p, _) => p.pic_init_qp_minus26,
-        FoundPicture::Absent => 0,
+        Some((p, _)) => p.pic_init_qp_minus26,
+        None => 0,
     }
 }
 
@@ -18,8 +18,8 @@ fn init_qs(pictures: &[u32; 2304], id: u32) -> i32
     ensures { result ≡ init_qs pictures.now id }
 {
     match picture_in(pictures, id) {
-        FoundPicture::There(p, _) => p.pic_init_qs_minus26,
-        FoundPicture::Absent => 0,
+        Some((p, _)) => p.pic_init_qs_minus26,
+        None => 0,
     }
 }
 

@@ -6,7 +6,7 @@ ghost use Rattle.lines.specs.Lines.{is_svc, slice_text, prefix_text, bit_text, r
 use crate::level::final_qp;
 use crate::text::{field, signed_number, words};
 use bits::refusals::Refusal;
-use nal::extension::{ExtensionRead, extension_of};
+use nal::extension::extension_of;
 use unit::into::ShortAnswer;
 
 // Whether a unit's extension is SVC's.
@@ -14,8 +14,8 @@ fn is_svc(unit: &[u8]) -> bool
     ensures { result ≡ is_svc unit.now }
 {
     match extension_of(unit) {
-        ExtensionRead::Got(e) => e.is_svc(),
-        ExtensionRead::Refused(_) => false,
+        Ok(e) => e.is_svc(),
+        Err(_) => false,
     }
 }
 

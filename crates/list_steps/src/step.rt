@@ -2,16 +2,18 @@
 ghost use Rattle.std.specs.Prelude.{◌≡◌};
 ghost use Rattle.header.specs.Lead.{table_of};
 ghost use Rattle.unit.specs.Unit.{unit_read};
-ghost use Rattle.unit.specs.Into.{lent_words};
+ghost use Rattle.unit.specs.Into.{lent_in, SameLent};
 ghost use Rattle.walk.specs.Walked.{walk_by};
 ghost use Rattle.walk.specs.WalkedInto.{WalkedInto};
 ghost use Rattle.lines.specs.Lines.{end_line, too_long_line};
 ghost use Rattle.list_steps.specs.Listing.{one_more, start, counted, turn_by, turn, framed_turn, Stepped};
 ghost use Rattle.list_steps.specs.Private.{is_refused_short, next_by, Ends, Broken, Met};
 
+use bits::refusals::Refusal;
 use framed::by_length::walk_framed_into;
+use header::slice::Words;
 use lines::line::{broken_line, end_line, too_long_line, unit_line};
-use unit::into::ShortAnswer;
+use unit::into::{AllWords, ShortAnswer};
 use walk::walk::{Step, WalkedShort, walk_into};
 
 // The longest recording that is listed, in bytes.
@@ -131,27 +133,15 @@ fn walk_by(
     recording: &[u8],
     from: usize,
     scratch: &mut [u8],
-    numbers: &mut [u32; 57],
-    signed: &mut [i32; 7],
-    l0: &mut [u32; 198],
-    l1: &mut [u32; 198],
-    marking: &mut [u32; 198],
-    w0: &mut [i32; 256],
-    w1: &mut [i32; 256],
-    base: &mut [u32; 198],
+    w: &mut AllWords<'_>,
 ) -> WalkedShort
-    ensures { WalkedInto (walk_by unit_read (next_by by_length) (table_of sequences.old pictures.old) recording.now from scratch.old) result scratch.new (table_of sequences.new pictures.new) (lent_words numbers signed l0 l1 marking w0 w1 base).entry (lent_words numbers signed l0 l1 marking w0 w1 base).exit }
+    ensures walked { WalkedInto (walk_by unit_read (next_by by_length) (table_of sequences.old pictures.old) recording.now from scratch.old) result scratch.new (table_of sequences.new pictures.new) (lent_in w.old) (lent_in w.new) }
+    ensures same { SameLent w.old w.new }
 {
     if by_length {
-        return walk_framed_into(
-            sequences, pictures, recording, from, scratch, numbers, signed, l0, l1, marking, w0,
-            w1, base,
-        );
+        return walk_framed_into(sequences, pictures, recording, from, scratch, w);
     }
-    walk_into(
-        sequences, pictures, recording, from, scratch, numbers, signed, l0, l1, marking, w0, w1,
-        base,
-    )
+    walk_into(sequences, pictures, recording, from, scratch, w)
 }
 
 // The walk's next step, what reading the unit answered, and the words of a slice's fields.
@@ -181,29 +171,28 @@ fn walk_on(
     let mut w0 = [0i32; 256];
     let mut w1 = [0i32; 256];
     let mut base = [0u32; 198];
+    let mut words = AllWords {
+        header: Words {
+            numbers: &mut numbers,
+            signed: &mut signed,
+            l0: &mut l0,
+            l1: &mut l1,
+            marking: &mut marking,
+            w0: &mut w0,
+            w1: &mut w1,
+        },
+        base: &mut base,
+    };
     let w = walk_by(
-        by_length,
-        sequences,
-        pictures,
-        recording,
-        from,
-        scratch,
-        &mut numbers,
-        &mut signed,
-        &mut l0,
-        &mut l1,
-        &mut marking,
-        &mut w0,
-        &mut w1,
-        &mut base,
+        by_length, sequences, pictures, recording, from, scratch, &mut words,
     );
     let step = w.step;
     let answer = w.answer;
     Next {
         step,
         answer,
-        numbers,
-        signed,
+        numbers: *words.header.numbers,
+        signed: *words.header.signed,
     }
 }
 

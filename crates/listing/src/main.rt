@@ -6,6 +6,7 @@ mod input; // all of standard input
 
 use list_steps::sample::sample_table;
 use list_steps::step::{list_step, start};
+use std::io;
 use std::process::ExitCode;
 
 // A message on standard error, and the status of a failure, which stands where that is gone too.
@@ -14,8 +15,8 @@ fn complain(rt: &impl Eprint, words: &str) -> ExitCode {
     ExitCode::FAILURE
 }
 
-// Line after line, until there are no more; false where one cannot be written.
-fn print(rt: &impl Print, recording: &[u8], scratch: &mut [u8]) -> bool {
+// Line after line, until there are no more, or one cannot be written.
+fn print(rt: &impl Print, recording: &[u8], scratch: &mut [u8]) -> io::Result<()> {
     let t = sample_table();
     let mut sequences = t.sequences;
     let mut pictures = t.pictures;
@@ -31,11 +32,9 @@ fn print(rt: &impl Print, recording: &[u8], scratch: &mut [u8]) -> bool {
             &mut line,
         );
         let n = l.length;
-        if rt.write_all(&line[..n]).is_err() {
-            return false;
-        }
+        rt.write_all(&line[..n])?;
         if !l.more {
-            return true;
+            return Ok(());
         }
         state = l.state;
     }
@@ -44,11 +43,10 @@ fn print(rt: &impl Print, recording: &[u8], scratch: &mut [u8]) -> bool {
 fn main(rt: HostRuntime) -> ExitCode {
     let mut bytes = input::room();
     let mut scratch = [0u8; 65536];
-    let got = input::read_all(&mut rt.reader(), &mut bytes);
-    let input::Input::Bytes(n) = got else {
+    let Ok(n) = input::read_all(&mut rt.reader(), &mut bytes) else {
         return complain(&rt, "standard input cannot be read");
     };
-    if !print(&rt, &bytes[..n], &mut scratch) {
+    if print(&rt, &bytes[..n], &mut scratch).is_err() {
         return complain(&rt, "standard output cannot be written");
     }
     ExitCode::SUCCESS

@@ -1,5 +1,5 @@
 -- The loop that zeroes the entries in use.
-use Prim.Native.Nat.{ℕ, ◌+◌, ◌≤◌, ◌<◌}
+use Prim.Native.Nat.{ℕ, ◌+◌, ◌≤◌}
 use mathlib.Core.Path.{◌≡◌, refl, ◌∙◌}
 use mathlib.Core.List.{List}
 use borrow.Author.Tests.{leb-true}
@@ -19,18 +19,14 @@ at-most-66 n = cases (leb n 66) (λ t. rw t (leb-true n 66 t)) (λ t. rw t (omeg
 module _ {A : Type 0} (a : A) (most : ℕ) (before : List A) (end : ℕ) where
   pub record Emptying (words : List A) (k : ℕ) : Type 0 where
     pub holds : words ≡ sets before 0 (replicate k a)
-    pub along : k ≤ end
     pub room : end ≤ most
 
   pub emptying-none : end ≤ most → Emptying before 0
-  emptying-none h = record { holds = refl; along = omega arith; room = h }
+  emptying-none h = record { holds = refl; room = h }
 
   module _ {words : List A} {k : ℕ} (e : Emptying words k) where
-    pub emptying-in : k < end → k < most
-    emptying-in h = omega (arith, e.room)
+    pub emptying-more : Emptying (set words k a) (k + 1)
+    emptying-more = record { holds = rw e.holds (same_next before k a); room = e.room }
 
-    pub emptying-more : k < end → Emptying (set words k a) (k + 1)
-    emptying-more h = record { holds = rw e.holds (same_next before k a); along = omega arith; room = e.room }
-
-    pub emptied : end ≤ k → words ≡ sets before 0 (replicate end a)
-    emptied h = let q : k ≡ end = omega (arith, e.along) in e.holds ∙ rw q
+    pub emptied : k ≡ end → words ≡ sets before 0 (replicate end a)
+    emptied q = e.holds ∙ rw q

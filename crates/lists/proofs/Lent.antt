@@ -15,13 +15,15 @@ use Rattle.fmt.specs.Fmt.{shaped, until}
 use Rattle.syntax.specs.declared.record.Operations.{Operations}
 use Rattle.syntax.specs.Lists.{Operation, Kind, entries, code, operands, operations, operations_if, no_operations, to_operations, of_operations}
 use Rattle.syntax.proofs.Operations.{of-to-operations, code-lawful, operands-lawful}
-use Rattle.lists.specs.declared.list_words.ListStep.{ListStep}
 use Rattle.lists.specs.Begun.{until_begun}
 use Rattle.lists.specs.Leaves.{leaves, Covered}
 use Rattle.lists.specs.ListsLent.{operation_words, list_words, list_step, list_left, list_begun}
 use Rattle.lists.proofs.Reading.{list-there, list-absent}
 use Rattle.lists.proofs.Begun.{until-all, until-few}
 use Rattle.lists.proofs.Fronts.{length-flat, sets_over}
+use Rattle.std.specs.Prelude.{Ok, Err}
+use Rattle.bits.specs.Answers.{Read}
+use Rattle.bits.proofs.Unique.{one-answer}
 
 -- no list has no words
 pub no-list : list_words no_operations ≡ []
@@ -72,26 +74,26 @@ module _ (b : Bool) (k : Kind) (s : Bits) (at : ℕ) where
   list-covered before words w m t o e h = rw w (sets_over before 0 (list_begun b k s at) (list_words o) (begun-few t m o e h))
 
   -- reading it, where it is there and where it is not
-  pub onto-there : (before : List ℕ) {r : ListStep} {words : List ℕ} → b ≡ true → (r ≡ list_step ((operations k).read s at)) × (words ≡ sets before 0 (list_begun true k s at))
+  pub onto-there : (before : List ℕ) {r : Read ℕ} {words : List ℕ} → b ≡ true → (r ≡ list_step ((operations k).read s at)) × (words ≡ sets before 0 (list_begun true k s at))
       → (r ≡ list_step ((operations_if b k).read s at)) × (words ≡ sets before 0 (list_begun b k s at))
   onto-there before t h = rw (← list-there b k s at t, t) h
 
-  pub onto-absent : (before : List ℕ) → b ≡ false → (ListStep.Got 0 (record { at = at }) ≡ list_step ((operations_if b k).read s at)) × (before ≡ sets before 0 (list_begun b k s at))
+  pub onto-absent : (before : List ℕ) → b ≡ false → (Ok (0, record { at = at }) ≡ list_step ((operations_if b k).read s at)) × (before ≡ sets before 0 (list_begun b k s at))
   unfolding list_step list_begun flat_map
   onto-absent before f = rw (← list-absent b k s at f, f) (refl, refl)
 
   -- what is left in the words: a list that was read
-  pub left-read : (before : List ℕ) {a : ListStep} {n : ℕ} {c : Cursor} {words : List ℕ} → a ≡ list_step ((operations_if b k).read s at) → a ≡ ListStep.Got n c
+  pub left-read : (before : List ℕ) {a : Read ℕ} {n : ℕ} {c : Cursor} {words : List ℕ} → a ≡ list_step ((operations_if b k).read s at) → a ≡ Ok (n, c)
       → words ≡ sets before 0 (list_begun b k s at) → words ≡ list_left ((operations_if b k).read s at) before
   unfolding list_step leaves
   left-read before {a} {n} {c} {words} h g f = go ((operations_if b k).read s at) refl
     where
       go : (m : Res Operations) → (operations_if b k).read s at ≡ m → words ≡ list_left ((operations_if b k).read s at) before
       go (got o e) q = rw q (f ∙ ap (sets before 0) (begun_all o e q))
-      go (no r) q = let z : ListStep.Got n c ≡ ListStep.Refused r = sym g ∙ h ∙ ap list_step q in cc
+      go (no r) q = let z : Ok (n, c) ≡ Err r = sym g ∙ h ∙ ap list_step q in cc
 
 -- and zeros beside a refusal
-pub left-refused : (m : Res Operations) (before : List ℕ) {a : ListStep} {r : Refusal} {words : List ℕ} → a ≡ list_step m → a ≡ ListStep.Refused r → words ≡ replicate 198 0
+pub left-refused : (m : Res Operations) (before : List ℕ) {a : Read ℕ} {r : Refusal} {words : List ℕ} → a ≡ list_step m → a ≡ Err r → words ≡ replicate 198 0
     → words ≡ list_left m before
 unfolding list_step leaves
 left-refused (got o e) before h g w = cc
@@ -104,25 +106,25 @@ pub record Listed (m : Res Operations) (n : ℕ) (c : Cursor) (before words : Li
   pub counted : n ≡ list.count
   pub held : words ≡ sets before 0 (list_words list)
 
-pub list_read : (m : Res Operations) {a : ListStep} {n : ℕ} {c : Cursor} {before words : List ℕ} → a ≡ list_step m → words ≡ list_left m before → a ≡ ListStep.Got n c
+pub list_read : (m : Res Operations) {a : Read ℕ} {n : ℕ} {c : Cursor} {before words : List ℕ} → a ≡ list_step m → words ≡ list_left m before → a ≡ Ok (n, c)
     → Listed m n c before words
 unfolding list_step leaves
 list_read (got o e) {c = c} h w g =
-    let q : c ≡ record { at = e } = cc in
-    record { list = o; read = rw q refl; counted = cc; held = w }
+    let q = one-answer (sym g ∙ h) in
+    record { list = o; read = rw q.1 refl; counted = q.0; held = w }
 list_read (no r) h w g = let z : ◌≡◌ {A = ℕ} 0 1 = cc in absurd (omega arith)
 
-pub list-refused : (m : Res Operations) {a : ListStep} {r : Refusal} → a ≡ list_step m → a ≡ ListStep.Refused r → m ≡ no r
+pub list-refused : (m : Res Operations) {a : Read ℕ} {r : Refusal} → a ≡ list_step m → a ≡ Err r → m ≡ no r
 unfolding list_step
 list-refused (got o e) h g = let z : ◌≡◌ {A = ℕ} 0 1 = cc in absurd (omega arith)
 list-refused (no r) h g = cc
 
 -- the same of a stage that does not clear the words
-pub list-onto : (b : Bool) (k : Kind) (s : Bits) (at : ℕ) {a : ListStep} {n : ℕ} {c : Cursor} (before : List ℕ) {words : List ℕ} → a ≡ list_step ((operations_if b k).read s at)
-    → words ≡ sets before 0 (list_begun b k s at) → a ≡ ListStep.Got n c → Listed ((operations_if b k).read s at) n c before words
+pub list-onto : (b : Bool) (k : Kind) (s : Bits) (at : ℕ) {a : Read ℕ} {n : ℕ} {c : Cursor} (before : List ℕ) {words : List ℕ} → a ≡ list_step ((operations_if b k).read s at)
+    → words ≡ sets before 0 (list_begun b k s at) → a ≡ Ok (n, c) → Listed ((operations_if b k).read s at) n c before words
 list-onto b k s at before h w g = list_read ((operations_if b k).read s at) h (left-read b k s at before h g w) g
 
-pub list-cleared : (m : Res Operations) (before : List ℕ) {a : ListStep} {r : Refusal} {words : List ℕ} → a ≡ list_step m → words ≡ list_left m before → a ≡ ListStep.Refused r
+pub list-cleared : (m : Res Operations) (before : List ℕ) {a : Read ℕ} {r : Refusal} {words : List ℕ} → a ≡ list_step m → words ≡ list_left m before → a ≡ Err r
     → words ≡ replicate 198 0
 unfolding list_step leaves
 list-cleared (got o e) before h w g = let z : ◌≡◌ {A = ℕ} 0 1 = cc in absurd (omega arith)

@@ -10,9 +10,7 @@ use lib.IntN.{pos}
 use lib.ListN.{length, set, length-append}
 use lib.Seq.{sets}
 use Rattle.bits.specs.declared.read.Cursor.{Cursor}
-use Rattle.bits.specs.declared.read.Read.{Read}
 use Rattle.bits.specs.declared.refusals.Refusal.{Refusal}
-use Rattle.bits.specs.Answers.{as_read, why_read}
 use Rattle.bits.specs.Bits.{Bits}
 use Rattle.bits.specs.Refusals.{Res, got, no, refusal_at}
 use Rattle.fmt.specs.Fmt.{seq, shaped, test, until}
@@ -23,12 +21,13 @@ use Rattle.syntax.specs.Lists.{Operation, Kind, entries, code, operands, operati
 use Rattle.syntax.specs.Marks.{is_zero, given}
 use Rattle.fields.proofs.Cases.{given-there, given-absent}
 use Rattle.lists.specs.declared.operations.ListKind.{ListKind}
-use Rattle.lists.specs.declared.list_words.ListStep.{ListStep}
 use Rattle.lists.specs.Kinds.{kind_of}
 use Rattle.lists.specs.Begun.{until_begun}
 use Rattle.lists.specs.ListsLent.{operation_words, list_step, list_begun}
 use Rattle.lists.proofs.Fronts.{front-next}
 use Rattle.lists.proofs.Begun.{until-refused, until-closed, until-filled, until-operand, until-next}
+use Rattle.std.specs.Prelude.{Ok, Err}
+use Rattle.bits.specs.Answers.{Read, as_read}
 
 -- a code's operands, by what the reads of the two answered
 module _ (k : Kind) (v : ℕ) (s : Bits) (at : ℕ) where
@@ -77,7 +76,7 @@ module _ (kind : ListKind) (s : Bits) (from : ℕ) (before : List ℕ) where
   started = record { list = []; count = refl; passed = none_passed (code format) kind.closing (operands format) entries s from; begun = refl; front = refl }
 
   -- the loop's answer, and what it leaves in the words
-  abbrev Told : ListStep → List ℕ → Type 0
+  abbrev Told : Read ℕ → List ℕ → Type 0
   Told r words = (r ≡ list_step found) × (words ≡ sets before 0 (list_begun true format s from))
 
   module _ {words : List ℕ} {n at : ℕ} (a : Reading words n at) where
@@ -86,52 +85,52 @@ module _ (kind : ListKind) (s : Bits) (from : ℕ) (before : List ℕ) where
     unfolding list_begun
     all e = a.front ∙ ap (λ (l : List Operation). sets before 0 (flat_map operation_words l)) (sym (a.begun ∙ ap (λ (l : List Operation). a.list ++ l) e ∙ append-nil a.list))
 
-    refused : {r : Refusal} → (until (code format) kind.closing (operands format) entries).read s from ≡ no r → begun_at (entries - n) at ≡ [] → Told (ListStep.Refused r) words
+    refused : {r : Refusal} → (until (code format) kind.closing (operands format) entries).read s from ≡ no r → begun_at (entries - n) at ≡ [] → Told (Err r) words
     unfolding operations shaped list_step
     refused h e = (rw h, all e)
 
-    module _ (x : Read) (t : as_read x ≡ (test (λ v. leb v kind.greatest) kind.number pos ue).read s at) where
-      pub no_code : (q r : Refusal) → x ≡ Read.Refused q → r ≡ why_read x → Told (ListStep.Refused r) words
+    module _ (x : Read ℕ) (t : as_read x ≡ (test (λ v. leb v kind.greatest) kind.number pos ue).read s at) where
+      pub no_code : (r : Refusal) → x ≡ Err r → Told (Err r) words
       unfolding code
-      no_code q r e w =
-          let h : (code format).read s at ≡ no r = sym t ∙ rw (w, e) in
+      no_code r e =
+          let h : (code format).read s at ≡ no r = sym t ∙ ap as_read e in
           refused (code-refused (code format) kind.closing (operands format) entries s from a.passed r h) (until-refused (code format) kind.closing (operands format) s (entries - n) at h)
 
-      module _ (v : ℕ) (c : Cursor) (e : x ≡ Read.Got v c) where
+      module _ (v : ℕ) (c : Cursor) (e : x ≡ Ok (v, c)) where
         coded : (code format).read s at ≡ got v c.at
         unfolding code
         coded = sym t ∙ ap as_read e
 
-        pub ended : v ≡ kind.closing → Told (ListStep.Got n c) words
+        pub ended : v ≡ kind.closing → Told (Ok (n, c)) words
         unfolding operations shaped to_operations list_step
         ended z =
             let h = list-closed (code format) kind.closing (operands format) entries s from a.passed v c.at coded z in
             (rw (h, a.count), all (until-closed (code format) kind.closing (operands format) s (entries - n) at coded z))
 
         module _ (z : v ≡ kind.closing → ⊥) where
-          pub too_many : 66 ≤ n → (r : Refusal) → r ≡ refusal_at 14 (pos 0) at → Told (ListStep.Refused r) words
+          pub too_many : 66 ≤ n → (r : Refusal) → r ≡ refusal_at 14 (pos 0) at → Told (Err r) words
           too_many m r e =
               let h = list_full_lem (code format) kind.closing (operands format) entries s from a.passed v c.at coded z (omega (arith, a.count)) in
               rw e (refused h (until-filled (code format) kind.closing (operands format) s (entries - n) at (omega arith)))
 
-          module _ (m : n < 66) (b : Bool) (f : b ≡ format.has_first v) (y : Read) (g : as_read y ≡ (given b 0 is_zero ue).read s c.at) where
-            operand : (r : Refusal) → (operands format v).read s c.at ≡ no r → Told (ListStep.Refused r) words
+          module _ (m : n < 66) (b : Bool) (f : b ≡ format.has_first v) (y : Read ℕ) (g : as_read y ≡ (given b 0 is_zero ue).read s c.at) where
+            operand : (r : Refusal) → (operands format v).read s c.at ≡ no r → Told (Err r) words
             operand r h =
                 refused (operand-refused (code format) kind.closing (operands format) entries s from a.passed v c.at coded z (omega (arith, a.count)) r h)
                 (until-operand (code format) kind.closing (operands format) s (entries - n) (entries - (n + 1)) at (omega arith) coded z h)
 
-            pub no-first : (q r : Refusal) → y ≡ Read.Refused q → r ≡ why_read y → Told (ListStep.Refused r) words
-            no-first q r e w = operand r (none_first format v s c.at r (rw (← f) (sym g ∙ rw (w, e))))
+            pub no-first : (r : Refusal) → y ≡ Err r → Told (Err r) words
+            no-first r e = operand r (none_first format v s c.at r (rw (← f) (sym g ∙ ap as_read e)))
 
-            module _ (u : ℕ) (d : Cursor) (yu : y ≡ Read.Got u d) (b' : Bool) (f' : b' ≡ format.has_second v) (o : Read)
+            module _ (u : ℕ) (d : Cursor) (yu : y ≡ Ok (u, d)) (b' : Bool) (f' : b' ≡ format.has_second v) (o : Read ℕ)
                 (g' : as_read o ≡ (given b' 0 is_zero ue).read s d.at) where
               first-is : (given (format.has_first v) 0 is_zero ue).read s c.at ≡ got u d.at
               first-is = rw (← f) (sym g ∙ ap as_read yu)
 
-              pub no_second : (q r : Refusal) → o ≡ Read.Refused q → r ≡ why_read o → Told (ListStep.Refused r) words
-              no_second q r e w = operand r (none-second format v s c.at u d.at r first-is (rw (← f') (sym g' ∙ rw (w, e))))
+              pub no_second : (r : Refusal) → o ≡ Err r → Told (Err r) words
+              no_second r e = operand r (none-second format v s c.at u d.at r first-is (rw (← f') (sym g' ∙ ap as_read e)))
 
-              pub turned : (w : ℕ) (e : Cursor) → o ≡ Read.Got w e → Reading (set (set (set words (3 * n) v) (3 * n + 1) u) (3 * n + 2) w) (n + 1) e.at
+              pub turned : (w : ℕ) (e : Cursor) → o ≡ Ok (w, e) → Reading (set (set (set words (3 * n) v) (3 * n + 1) u) (3 * n + 2) w) (n + 1) e.at
               turned w e ow =
                   let h = both-operands format v s c.at u d.at w e.at first-is (rw (← f') (sym g' ∙ ap as_read ow)) in
                   let p : Operation = (v, (u, w)) in

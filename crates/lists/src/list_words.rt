@@ -5,32 +5,15 @@ ghost use Rattle.bits.specs.Bits.{bits_of};
 ghost use Rattle.syntax.specs.Lists.{operations, operations_if};
 ghost use Rattle.syntax.specs.Prefix.{base_marking_kind, has_base_marking, prefix};
 ghost use Rattle.lists.specs.Kinds.{kind_of};
-ghost use Rattle.lists.specs.ListsLent.{list_step, list_left, list_begun, why_list, at_most66, emptied_list, prefix_step, prefix_left};
+ghost use Rattle.lists.specs.ListsLent.{list_step, list_left, list_begun, at_most66, emptied_list, prefix_step, prefix_left};
 
 use crate::operations::{ListKind, has_first, has_second};
-use bits::read::{Cursor, Read, why};
-use bits::refusals::{BASE_MARKING_OPERATION, LIST_FULL, Refusal, no_refusal, refuse_at};
+use bits::read::{Cursor, Read};
+use bits::refusals::{BASE_MARKING_OPERATION, LIST_FULL, Refusal, refuse_at, why};
 use fields::conditions::{both, either};
 use fields::read::{flag_if, given, tested};
-use fields::step::{FlagStep, why_flag};
 use syntax::context::PrefixKind;
-use syntax::marks::MarkedFlag;
-
-// The count, and the place after the closing code; the list stands in the words.
-#[derive(Clone, Copy)]
-pub enum ListStep {
-    Refused(Refusal),
-    Got(u32, Cursor),
-}
-
-pub fn why_list(a: ListStep) -> Refusal
-    ensures { result ≡ why_list a }
-{
-    match a {
-        ListStep::Got(_, _) => no_refusal(),
-        ListStep::Refused(r) => r,
-    }
-}
+use syntax::marks::Marked;
 
 pub fn clear_list(words: &mut [u32; 198])
     ensures { words.new ≡ replicate 198 0 }
@@ -50,10 +33,8 @@ pub fn empty_list(words: &mut [u32; 198], count: u32)
     ensures { words.new ≡ emptied_list count words.old }
 {
     let end = 3 * at_most_66(count) as usize;
-    let mut k: usize = 0;
-    while k < end {
+    for k in 0..end {
         words[k] = 0;
-        k += 1;
     }
 }
 
@@ -65,31 +46,22 @@ struct Filled {
 }
 
 // The loop of `operations`. After a refusal the words hold the entries that were read before it.
-fn fill(s: &[u8], c: Cursor, kind: ListKind, words: &mut [u32; 198]) -> ListStep
+fn fill(s: &[u8], c: Cursor, kind: ListKind, words: &mut [u32; 198]) -> Read<u32>
     ensures value { result ≡ list_step ((operations (kind_of kind)).read (bits_of s.now) c.at) }
     ensures words_after { words.new ≡ sets words.old 0 (list_begun true (kind_of kind) (bits_of s.now) c.at) }
 {
     let mut count: u32 = 0;
     let mut at = c;
     let got = loop {
-        let a = tested(s, at, kind.greatest as u32, kind.number);
-        let Read::Got(code, c1) = a else {
-            return ListStep::Refused(why(a));
-        };
+        let (code, c1) = tested(s, at, kind.greatest as u32, kind.number)?;
         if code == kind.closing as u32 {
             break Filled { count, at: c1 };
         }
         if 66 <= count {
-            return ListStep::Refused(refuse_at(LIST_FULL, 0, at.at));
+            return Err(refuse_at(LIST_FULL, 0, at.at));
         }
-        let b = given(s, c1, has_first(kind, code));
-        let Read::Got(x, c2) = b else {
-            return ListStep::Refused(why(b));
-        };
-        let d = given(s, c2, has_second(kind, code));
-        let Read::Got(y, c3) = d else {
-            return ListStep::Refused(why(d));
-        };
+        let (x, c2) = given(s, c1, has_first(kind, code))?;
+        let (y, c3) = given(s, c2, has_second(kind, code))?;
         let k = 3 * count as usize;
         words[k] = code;
         words[k + 1] = x;
@@ -98,7 +70,7 @@ fn fill(s: &[u8], c: Cursor, kind: ListKind, words: &mut [u32; 198]) -> ListStep
         at = c3;
     };
     let end = got.at;
-    ListStep::Got(got.count, end)
+    Ok((got.count, end))
 }
 
 // A list that is there only under a condition, over the words as far as it is read: beside a refusal they hold the entries that were read before it. Where the
@@ -109,12 +81,12 @@ pub fn operations_onto(
     there: bool,
     kind: ListKind,
     words: &mut [u32; 198],
-) -> ListStep
+) -> Read<u32>
     ensures value { result ≡ list_step ((operations_if there (kind_of kind)).read (bits_of s.now) c.at) }
     ensures words_after { words.new ≡ sets words.old 0 (list_begun there (kind_of kind) (bits_of s.now) c.at) }
 {
     if !there {
-        return ListStep::Got(0, c);
+        return Ok((0, c));
     }
     fill(s, c, kind, words)
 }
@@ -127,15 +99,15 @@ pub fn operations_into(
     there: bool,
     kind: ListKind,
     words: &mut [u32; 198],
-) -> ListStep
+) -> Read<u32>
     ensures value { result ≡ list_step ((operations_if there (kind_of kind)).read (bits_of s.now) c.at) }
     ensures words_after { words.new ≡ list_left ((operations_if there (kind_of kind)).read (bits_of s.now) c.at) words.old }
 {
     if !there {
-        return ListStep::Got(0, c);
+        return Ok((0, c));
     }
     let a = fill(s, c, kind, words);
-    let ListStep::Got(_, _) = a else {
+    let Ok((_, _)) = a else {
         clear_list(words);
         return a;
     };
@@ -143,19 +115,12 @@ pub fn operations_into(
 }
 
 // prefix_nal_unit_svc( ) without its list, of which it has the count.
-#[repr(C)]
 #[derive(Clone, Copy)]
 pub struct PrefixShort {
-    pub store_ref_base_pic_flag: MarkedFlag,
-    pub adaptive_ref_base_pic_marking_mode_flag: MarkedFlag,
+    pub store_ref_base_pic_flag: Marked<bool>,
+    pub adaptive_ref_base_pic_marking_mode_flag: Marked<bool>,
     pub base_markings: u32,
-    pub additional_prefix_nal_unit_extension_flag: MarkedFlag,
-}
-
-#[derive(Clone, Copy)]
-pub enum PrefixStep {
-    Refused(Refusal),
-    Got(PrefixShort, Cursor),
+    pub additional_prefix_nal_unit_extension_flag: Marked<bool>,
 }
 
 fn base_marking_kind() -> ListKind
@@ -178,29 +143,25 @@ fn has_base_marking(kind: PrefixKind, store: bool) -> bool
 }
 
 // The body of a prefix unit, by what its first bytes say of it. Words that hold no entry of its list are zeros, and so are all beside a refusal.
-pub fn prefix_into(s: &[u8], c: Cursor, kind: PrefixKind, words: &mut [u32; 198]) -> PrefixStep
+pub fn prefix_into(
+    s: &[u8],
+    c: Cursor,
+    kind: PrefixKind,
+    words: &mut [u32; 198],
+) -> Read<PrefixShort>
     ensures value { result ≡ prefix_step ((prefix kind).read (bits_of s.now) c.at) }
     ensures words_after { words.new ≡ prefix_left ((prefix kind).read (bits_of s.now) c.at) }
 {
     clear_list(words);
-    let a1 = flag_if(s, c, kind.there);
-    let FlagStep::Got(store, c1) = a1 else {
-        return PrefixStep::Refused(why_flag(a1));
-    };
-    let a2 = flag_if(s, c1, has_base_marking(kind, store.value));
-    let FlagStep::Got(adaptive, c2) = a2 else {
-        return PrefixStep::Refused(why_flag(a2));
-    };
-    let a3 = operations_into(s, c2, adaptive.value, base_marking_kind(), words);
-    let ListStep::Got(count, c3) = a3 else {
-        return PrefixStep::Refused(why_list(a3));
-    };
+    let (store, c1) = flag_if(s, c, kind.there)?;
+    let (adaptive, c2) = flag_if(s, c1, has_base_marking(kind, store.value))?;
+    let (count, c3) = operations_into(s, c2, adaptive.value, base_marking_kind(), words)?;
     let a4 = flag_if(s, c3, kind.there);
-    let FlagStep::Got(more, c4) = a4 else {
+    let Ok((more, c4)) = a4 else {
         clear_list(words);
-        return PrefixStep::Refused(why_flag(a4));
+        return Err(why(a4));
     };
-    PrefixStep::Got(
+    Ok((
         PrefixShort {
             store_ref_base_pic_flag: store,
             adaptive_ref_base_pic_marking_mode_flag: adaptive,
@@ -208,5 +169,5 @@ pub fn prefix_into(s: &[u8], c: Cursor, kind: PrefixKind, words: &mut [u32; 198]
             additional_prefix_nal_unit_extension_flag: more,
         },
         c4,
-    )
+    ))
 }

@@ -14,8 +14,8 @@ use Rattle.bits.specs.Codes.{is_set}
 use Rattle.bits.proofs.Digits.{digits_append}
 use Rattle.bits.proofs.Fields.{field-digits}
 use Rattle.nal.specs.declared.extension.NalHeaderExtension.{NalHeaderExtension}
-use Rattle.nal.specs.declared.extension.ExtensionRead.{ExtensionRead}
 use Rattle.nal.specs.Extension.{three_bytes, extension_from, extension_of}
+use Rattle.std.specs.Prelude.{Ok, Err}
 
 module _ (b1 b2 b3 : ℕ) (h2 : b2 < 256) (h3 : b3 < 256) where
   three-digits : three_bytes b1 b2 b3 ≡ digits 24 (b1 * 65536 + (b2 * 256 + b3))
@@ -44,10 +44,10 @@ module _ (b1 b2 b3 : ℕ) (h2 : b2 < 256) (h3 : b3 < 256) where
   unfolding extension_from
   is-mvc h = rw (ne_eqb (field 0 1 (three_bytes b1 b2 b3)) 1 (λ e. omega (arith, three-field 0 1 (lit≤ tt))))
 
-pub no-extension : (s : List ℕ) → length s < 4 → extension_of s ≡ ExtensionRead.Refused (refusal no_extension (pos 0))
+pub no-extension : (s : List ℕ) → length s < 4 → extension_of s ≡ Err (refusal no_extension (pos 0))
 unfolding extension_of
 no-extension s h = rw (lt-leb 4 (length s) h)
 
-pub with-extension : (s : List ℕ) → 4 ≤ length s → extension_of s ≡ ExtensionRead.Got (extension_from (get_or s 1 0) (get_or s 2 0) (get_or s 3 0))
+pub with-extension : (s : List ℕ) → 4 ≤ length s → extension_of s ≡ Ok (extension_from (get_or s 1 0) (get_or s 2 0) (get_or s 3 0))
 unfolding extension_of
 with-extension s h = rw (le-leb 4 (length s) h)

@@ -9,7 +9,8 @@ use borrow.Author.Tests.{lt-ltb, le-ltb, ltb-true, ltb-false}
 use lib.Dec.{ltb}
 use lib.ListN.{get_or, get_or-map}
 use Rattle.nal.specs.declared.unit_type.UnitType.{UnitType}
-use Rattle.nal.specs.declared.unit_type.UnitTypeForId.{UnitTypeForId}
+use Rattle.nal.specs.declared.unit_type.UnitTypeError.{UnitTypeError}
+use Rattle.std.specs.Prelude.{Result, Ok, Err}
 use Rattle.nal.specs.UnitType.{types, type_of, for_id, id_of}
 
 -- the n numbers from i on
@@ -31,29 +32,29 @@ pub id-of-type : (k : ℕ) → k < 32 → id_of (type_of k) ≡ k
 unfolding type_of
 id-of-type k h = sym (get_or-map id_of types k (UnitType.Unspecified 0)) ∙ ap (λ (l : List ℕ). get_or l k 0) ids ∙ count_at 0 32 k h ∙ omega arith
 
-pub for-id-in : (k : ℕ) → k < 32 → for_id k ≡ UnitTypeForId.«Type» (type_of k)
+pub for-id-in : (k : ℕ) → k < 32 → for_id k ≡ Ok (type_of k)
 unfolding for_id
 for-id-in k h = rw (lt-ltb k 32 h)
 
-pub for-id-out : (k : ℕ) → 31 < k → for_id k ≡ UnitTypeForId.ValueOutOfRange k
+pub for-id-out : (k : ℕ) → 31 < k → for_id k ≡ Err (UnitTypeError.ValueOutOfRange k)
 unfolding for_id
 for-id-out k h = rw (le-ltb k 32 h)
 
 -- the type that an id answers has that id
-pub id-back : (k : ℕ) (t : UnitType) → for_id k ≡ UnitTypeForId.«Type» t → id_of t ≡ k
+pub id-back : (k : ℕ) (t : UnitType) → for_id k ≡ Ok t → id_of t ≡ k
 id-back k t e = go (ltb k 32) refl
   where
     go : (b : Bool) → ltb k 32 ≡ b → id_of t ≡ k
     go true q =
         let h : k < 32 = ltb-true k 32 q in
-        let i : UnitTypeForId.«Type» (type_of k) ≡ UnitTypeForId.«Type» t = sym (for-id-in k h) ∙ e in
+        let i : ◌≡◌ {A = Result UnitType UnitTypeError} (Ok (type_of k)) (Ok t) = sym (for-id-in k h) ∙ e in
         let s : type_of k ≡ t = cc in
         ap id_of (sym s) ∙ id-of-type k h
     go false q =
-        let i : UnitTypeForId.ValueOutOfRange k ≡ UnitTypeForId.«Type» t = sym (for-id-out k (ltb-false k 32 q)) ∙ e in
+        let i : ◌≡◌ {A = Result UnitType UnitTypeError} (Err (UnitTypeError.ValueOutOfRange k)) (Ok t) = sym (for-id-out k (ltb-false k 32 q)) ∙ e in
         let z : ◌≡◌ {A = ℕ} 0 1 = cc in
         absurd (omega arith)
 
 -- and its id answers that type
-pub type-back : (k : ℕ) (t : UnitType) → for_id k ≡ UnitTypeForId.«Type» t → for_id (id_of t) ≡ UnitTypeForId.«Type» t
+pub type-back : (k : ℕ) (t : UnitType) → for_id k ≡ Ok t → for_id (id_of t) ≡ Ok t
 type-back k t e = ap for_id (id-back k t e) ∙ e

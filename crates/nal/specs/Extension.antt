@@ -6,7 +6,8 @@ use Rattle.bits.specs.Codes.{is_set}
 use Rattle.nal.specs.declared.extension.NalHeaderMvcExtension.{NalHeaderMvcExtension}
 use Rattle.nal.specs.declared.extension.NalHeaderSvcExtension.{NalHeaderSvcExtension}
 use Rattle.nal.specs.declared.extension.NalHeaderExtension.{NalHeaderExtension}
-use Rattle.nal.specs.declared.extension.ExtensionRead.{ExtensionRead}
+use Rattle.std.specs.Prelude.{Result, Ok, Err}
+use Rattle.bits.specs.declared.refusals.Refusal.{Refusal}
 
 abbrev pub three_bytes : ℕ → ℕ → ℕ → Bits
 three_bytes b1 b2 b3 = bytes_bits (b1 ∷ b2 ∷ b3 ∷ [])
@@ -27,11 +28,11 @@ is_svc (NalHeaderExtension.Svc e) = true
 is_svc (NalHeaderExtension.Mvc e) = false
 
 -- bytes 1, 2 and 3 of the unit, or refusal 4
-unfoldable pub extension_of : List ℕ → ExtensionRead
+unfoldable pub extension_of : List ℕ → Result NalHeaderExtension Refusal
 extension_of unit =
     pick (leb 4 (length unit))
-    (ExtensionRead.Got (extension_from (get_or unit 1 0) (get_or unit 2 0) (get_or unit 3 0)))
-    (ExtensionRead.Refused (refusal no_extension (pos 0)))
+    (Ok (extension_from (get_or unit 1 0) (get_or unit 2 0) (get_or unit 3 0)))
+    (Err (refusal no_extension (pos 0)))
 
 -- ---- nal_unit_header_mvc_extension( ), H.7.3.1.1 (G.7.3.1.1 in newer editions); bit 23 is reserved_one_bit
 

@@ -2,7 +2,8 @@
 use Rattle.std.specs.Prelude.{ℕ, List, [], ◌∷◌, ltb, get_or}
 use Rattle.bits.specs.Refusals.{pick}
 use Rattle.nal.specs.declared.unit_type.UnitType.{UnitType}
-use Rattle.nal.specs.declared.unit_type.UnitTypeForId.{UnitTypeForId}
+use Rattle.nal.specs.declared.unit_type.UnitTypeError.{UnitTypeError}
+use Rattle.std.specs.Prelude.{Result, Ok, Err}
 
 -- the types with nal_unit_type 0, 1, 2, .., 31
 abbrev pub types : List UnitType
@@ -45,8 +46,8 @@ types =
 unfoldable pub type_of : ℕ → UnitType
 type_of id = get_or types id (UnitType.Unspecified 0)
 
-unfoldable pub for_id : ℕ → UnitTypeForId
-for_id id = pick (ltb id 32) (UnitTypeForId.«Type» (type_of id)) (UnitTypeForId.ValueOutOfRange id)
+unfoldable pub for_id : ℕ → Result UnitType UnitTypeError
+for_id id = pick (ltb id 32) (Ok (type_of id)) (Err (UnitTypeError.ValueOutOfRange id))
 
 -- the id of a type, by the same table
 abbrev pub id_of : UnitType → ℕ

@@ -144,19 +144,12 @@ impl NalHeaderExtension {
     }
 }
 
-// What reading a unit's extension finds.
-#[derive(Clone, Copy)]
-pub enum ExtensionRead {
-    Refused(Refusal),
-    Got(NalHeaderExtension),
-}
-
 // The extension of a whole unit: the three bytes after the first.
-pub fn extension_of(unit: &[u8]) -> ExtensionRead
+pub fn extension_of(unit: &[u8]) -> Result<NalHeaderExtension, Refusal>
     ensures { result ≡ extension_of unit.now }
 {
     if unit.len() < 4 {
-        return ExtensionRead::Refused(refuse(NO_EXTENSION, 0));
+        return Err(refuse(NO_EXTENSION, 0));
     }
-    ExtensionRead::Got(NalHeaderExtension::from_bytes(unit[1], unit[2], unit[3]))
+    Ok(NalHeaderExtension::from_bytes(unit[1], unit[2], unit[3]))
 }

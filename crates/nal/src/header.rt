@@ -9,21 +9,14 @@ use bits::refusals::{FORBIDDEN_ZERO_BIT, NO_BYTE, Refusal, refuse};
 #[derive(Clone, Copy)]
 pub struct NalHeader(pub u8);
 
-// What reading a first byte finds.
-#[derive(Clone, Copy)]
-pub enum NalHeaderRead {
-    Refused(Refusal),
-    Got(NalHeader),
-}
-
 impl NalHeader {
-    pub fn new(header_value: u8) -> NalHeaderRead
+    pub fn new(header_value: u8) -> Result<NalHeader, Refusal>
         ensures { result ≡ header_from header_value }
     {
         if 127 < header_value {
-            return NalHeaderRead::Refused(refuse(FORBIDDEN_ZERO_BIT, 0));
+            return Err(refuse(FORBIDDEN_ZERO_BIT, 0));
         }
-        NalHeaderRead::Got(NalHeader(header_value))
+        Ok(NalHeader(header_value))
     }
 
     pub fn nal_ref_idc(self) -> u8
@@ -47,11 +40,11 @@ impl NalHeader {
 }
 
 // The header of a whole unit: its first byte.
-pub fn header_of(unit: &[u8]) -> NalHeaderRead
+pub fn header_of(unit: &[u8]) -> Result<NalHeader, Refusal>
     ensures { result ≡ header_of unit.now }
 {
     if unit.len() == 0 {
-        return NalHeaderRead::Refused(refuse(NO_BYTE, 0));
+        return Err(refuse(NO_BYTE, 0));
     }
     NalHeader::new(unit[0])
 }

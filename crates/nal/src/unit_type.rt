@@ -66,22 +66,21 @@ const TYPES: [UnitType; 32] = [
     UnitType::Unspecified(31),
 ];
 
-// What `for_id` answers.
+// Why an id names no type.
 #[derive(Clone, Copy)]
-pub enum UnitTypeForId {
-    Type(UnitType),
+pub enum UnitTypeError {
     // over 31
     ValueOutOfRange(u8),
 }
 
 impl UnitType {
-    pub fn for_id(id: u8) -> UnitTypeForId
+    pub fn for_id(id: u8) -> Result<UnitType, UnitTypeError>
         ensures { result ≡ for_id id }
     {
         if 31 < id {
-            return UnitTypeForId::ValueOutOfRange(id);
+            return Err(UnitTypeError::ValueOutOfRange(id));
         }
-        UnitTypeForId::Type(UnitType::of_low_bits(id))
+        Ok(UnitType::of_low_bits(id))
     }
 
     // The type that the low five bits of a byte name.

@@ -1,14 +1,11 @@
 pub mod Passing
 pub mod ScalingLists
-pub mod MapUnits
 pub mod Gives
 pub mod SequenceKnown
 pub mod Ids
 pub mod Pairs
 pub mod PictureKnown
-pub mod PictureUnique
 pub mod PictureExamples
-pub mod SequenceUnique
 pub mod SequenceExamples
 pub mod PictureParts
 pub mod Looks

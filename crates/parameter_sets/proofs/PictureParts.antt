@@ -12,7 +12,6 @@ use Rattle.bits.specs.Refusals.{Res, got, no, bind, pick, refusal_at, ran_out}
 use Rattle.bits.specs.Bits.{Bits}
 use Rattle.fmt.specs.Leaves.{u, ue}
 use Rattle.fmt.specs.Reads.{found, next, read_if, passes}
-use Rattle.fields.specs.declared.step.End.{End}
 use Rattle.fields.specs.Steps.{as_end}
 use Rattle.parameter_sets.specs.declared.groups.Groups.{Groups}
 use Rattle.parameter_sets.specs.declared.picture.PictureLead.{PictureLead}
@@ -20,6 +19,7 @@ use Rattle.parameter_sets.specs.SequenceSet.{up_to}
 use Rattle.parameter_sets.specs.PictureSet.{group_id_bits, group_ids, group_map, slice_groups, picture_lead, picture_set}
 use Rattle.parameter_sets.specs.PictureParts.{no_ids, ids_start, groups_start, picture_start, id_count, id_bits, ids_end, picture_rest}
 use Rattle.parameter_sets.proofs.Ids.{ids-in, ids-out}
+use Rattle.std.specs.Prelude.{Ok, Err}
 
 -- ---- the ids
 
@@ -32,11 +32,11 @@ some_bits n = go (leb n 1) (leb n 3)
     go false false = (omega arith, omega arith)
 
 module _ (g : Groups) (at end : ℕ) {n w left : ℕ} (p : n ≡ id_count g) (q : w ≡ id_bits g) (r : left ≡ end - at) where
-  pub ends-in : n * w ≤ left → End.At (record { at = at + n * w }) ≡ ids_end g at end
+  pub ends-in : n * w ≤ left → Ok (record { at = at + n * w }) ≡ ids_end g at end
   unfolding ids_end
   ends-in h = let e : id_count g * id_bits g ≤ end - at = rw (p, q, r) at h in rw (p, q, le-leb (id_count g * id_bits g) (end - at) e)
 
-  pub ends-out : left < n * w → {x : Refusal} → x ≡ refusal_at ran_out (pos 0) (at + left / w * w) → End.Refused x ≡ ids_end g at end
+  pub ends-out : left < n * w → {x : Refusal} → x ≡ refusal_at ran_out (pos 0) (at + left / w * w) → Err x ≡ ids_end g at end
   unfolding ids_end
   ends-out h k = let e : end - at < id_count g * id_bits g = rw (p, q, r) at h in rw (k, q, r, lt-leb (id_count g * id_bits g) (end - at) e)
 

@@ -5,12 +5,13 @@ use Rattle.bits.specs.declared.refusals.Refusal.{Refusal}
 use Rattle.bits.specs.Refusals.{Res, got, no, pick, refusal_at, ran_out}
 use Rattle.fmt.specs.Leaves.{ue}
 use Rattle.fmt.specs.Reads.{Reads, found, next, read_if}
-use Rattle.fields.specs.declared.step.End.{End}
 use Rattle.parameter_sets.specs.declared.groups.Groups.{Groups}
 use Rattle.parameter_sets.specs.declared.picture.PictureSet.{PictureSet}
 use Rattle.parameter_sets.specs.declared.picture.PictureStart.{PictureStart}
 use Rattle.parameter_sets.specs.SequenceSet.{up_to}
 use Rattle.parameter_sets.specs.PictureSet.{group_id_bits, group_map, picture_lead, references, levels}
+use Rattle.std.specs.Prelude.{Result, Ok, Err}
+use Rattle.bits.specs.declared.read.Cursor.{Cursor}
 
 -- ---- before the ids
 
@@ -45,10 +46,10 @@ abbrev pub id_bits : Groups → ℕ
 id_bits g = group_id_bits g.num_slice_groups_minus1
 
 -- where they end that begin at a place of a body of so many bits: 5 at the first that lacks bits
-unfoldable pub ids_end : Groups → (at end : ℕ) → End
+unfoldable pub ids_end : Groups → (at end : ℕ) → Result Cursor Refusal
 ids_end g at end =
-    pick (leb (id_count g * id_bits g) (end - at)) (End.At (record { at = at + id_count g * id_bits g }))
-    (End.Refused (refusal_at ran_out (pos 0) (at + (end - at) / id_bits g * id_bits g)))
+    pick (leb (id_count g * id_bits g) (end - at)) (Ok (record { at = at + id_count g * id_bits g }))
+    (Err (refusal_at ran_out (pos 0) (at + (end - at) / id_bits g * id_bits g)))
 
 -- ---- behind the ids
 

@@ -1,4 +1,6 @@
 // Scaling lists, passed over: scaling_list( ), 7.3.2.1.1.1, and the matrix of them.
+#![tactic(auto, unfolding(crate::specs::SequenceSet::scaling_list, crate::specs::SequenceSet::scaling_lists, crate::specs::SequenceSet::scaling_matrix, fmt::specs::Reads::next, fmt::specs::Reads::found, fmt::specs::Reads::read_if, fmt::specs::Leaves::flag))]
+
 ghost use Rattle.std.specs.Prelude.{true, ◌≡◌, ◌+◌, ◌%◌, ◌≤◌, eqb, ltb, pos, negsuc, nat_abs, ◌+ℤ◌};
 ghost use Rattle.bits.specs.Bits.{bits_of};
 ghost use Rattle.bits.specs.Refusals.{pick};
@@ -9,8 +11,8 @@ ghost use Rattle.table.specs.Sets.{between_z};
 ghost use Rattle.parameter_sets.specs.SequenceSet.{scaling_list, scaling_lists, scaling_matrix};
 
 use crate::codes::within;
-use bits::read::{Cursor, ReadFlag, why_flag};
-use fields::step::{End, SignedGiven, why_given};
+use bits::read::Cursor;
+use bits::refusals::Refusal;
 
 // nextScale, by lastScale and delta_scale.
 fn next_scale(last: u32, delta: i32) -> u32
@@ -28,27 +30,22 @@ fn last_scale(last: u32, scale: u32) -> u32
 }
 
 // A list of n entries.
-fn scaling_list(s: &[u8], c: Cursor, n: u32) -> End
+fn scaling_list(s: &[u8], c: Cursor, n: u32) -> Result<Cursor, Refusal>
     ensures { as_end result tt ≡ scaling_list n 8 8 (bits_of s.now) c.at }
 {
-    let mut left = n;
     let mut last: u32 = 8;
     let mut scale: u32 = 8;
     let mut at = c;
-    while 0 < left {
+    for _ in 0..n {
         if scale == 0 {
-            return End::At(at);
+            return Ok(at);
         }
-        let a = within(s, at, -128, 127);
-        let SignedGiven::Got(delta, next) = a else {
-            return End::Refused(why_given(a));
-        };
-        scale = next_scale(last, delta.value);
+        let (delta, next) = within(s, at, -128, 127)?;
+        scale = next_scale(last, delta);
         last = last_scale(last, scale);
-        left -= 1;
         at = next;
     }
-    End::At(at)
+    Ok(at)
 }
 
 // The entries of the i-th list.
@@ -59,34 +56,25 @@ fn entries(i: u32) -> u32
 }
 
 // The i-th list, with the flag whether it is there.
-fn one_list(s: &[u8], c: Cursor, i: u32) -> End
+fn one_list(s: &[u8], c: Cursor, i: u32) -> Result<Cursor, Refusal>
     ensures { as_end result tt ≡ next flag.read (λ there. read_if there tt (scaling_list (pick (ltb i 6) 16 64) 8 8)) (bits_of s.now) c.at }
 {
-    let a = c.flag(s);
-    let ReadFlag::Got(there, next) = a else {
-        return End::Refused(why_flag(a));
-    };
+    let (there, next) = c.flag(s)?;
     if there {
         scaling_list(s, next, entries(i))
     } else {
-        End::At(next)
+        Ok(next)
     }
 }
 
-fn scaling_lists(s: &[u8], c: Cursor, n: u32) -> End
+fn scaling_lists(s: &[u8], c: Cursor, n: u32) -> Result<Cursor, Refusal>
     ensures { as_end result tt ≡ scaling_lists n 0 (bits_of s.now) c.at }
 {
-    let mut i: u32 = 0;
     let mut at = c;
-    while i < n {
-        let a = one_list(s, at, i);
-        let End::At(next) = a else {
-            return a;
-        };
-        i += 1;
-        at = next;
+    for i in 0..n {
+        at = one_list(s, at, i)?;
     }
-    End::At(at)
+    Ok(at)
 }
 
 // How many lists there are.
@@ -96,16 +84,13 @@ fn lists(chroma_format_idc: u32) -> u32
     if chroma_format_idc == 3 { 12 } else { 8 }
 }
 
-pub(crate) fn scaling_matrix(s: &[u8], c: Cursor, chroma_format_idc: u32) -> End
+pub(crate) fn scaling_matrix(s: &[u8], c: Cursor, chroma_format_idc: u32) -> Result<Cursor, Refusal>
     ensures { as_end result tt ≡ scaling_matrix chroma_format_idc (bits_of s.now) c.at }
 {
-    let a = c.flag(s);
-    let ReadFlag::Got(there, next) = a else {
-        return End::Refused(why_flag(a));
-    };
+    let (there, next) = c.flag(s)?;
     if there {
         scaling_lists(s, next, lists(chroma_format_idc))
     } else {
-        End::At(next)
+        Ok(next)
     }
 }

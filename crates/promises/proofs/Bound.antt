@@ -15,7 +15,6 @@ use Rattle.syntax.specs.declared.record.SliceHeader.{SliceHeader}
 use Rattle.syntax.specs.Context.{picture_for}
 use Rattle.syntax.specs.SliceHeader.{header}
 use Rattle.writer.specs.declared.given.ExtensionGiven.{ExtensionGiven}
-use Rattle.writer.specs.declared.write.HeaderWrote.{HeaderWrote}
 use Rattle.writer.specs.Write.{write_header}
 use Rattle.writer.proofs.Answers.{wrote}
 use Rattle.writer.proofs.Refusing.{TooLong, too_long}
@@ -24,6 +23,7 @@ use Rattle.size.specs.Size.{most_bits, bound_of, EachBounded, EachReached}
 use Rattle.size.proofs.Bound.{header-bound, bound-few, greatest, each-bounded}
 use Rattle.size.proofs.Reaching.{each-reached}
 use Rattle.promises.specs.Bound.{enough}
+use Rattle.std.specs.Prelude.{Ok, Err}
 
 -- no record is too long for a buffer that has room for its bound
 pub fits_bound : {t : Table} {h : SliceHeader} {out : List ℕ} → bytes_for (bound_of (picture_for t h.pic_parameter_set_id) h) ≤ length out → TooLong t h out → ⊥
@@ -43,16 +43,16 @@ fits-enough {t} {h} {out} room z = fits_bound (omega (arith, room, bound-few t z
 
 module _ (t : Table) (first : ℕ) (x : ExtensionGiven) (h : SliceHeader) (out : List ℕ) where
   -- to a buffer of 6,144 bytes it never answers 26, whatever the table and the record
-  pub bound-never-26 : enough ≤ length out → (r : Refusal) → (write_header t first x h out).answer ≡ HeaderWrote.Refused r → r.number ≡ buffer_too_short → ⊥
+  pub bound-never-26 : enough ≤ length out → (r : Refusal) → (write_header t first x h out).answer ≡ Err r → r.number ≡ buffer_too_short → ⊥
   bound-never-26 room r e i = fits-enough room (too_long true t first x h out e i)
 
   -- nor to one with room for the formula's bits
-  pub bound-room : bytes_for (bound_of (picture_for t h.pic_parameter_set_id) h) ≤ length out → (r : Refusal) → (write_header t first x h out).answer ≡ HeaderWrote.Refused r
+  pub bound-room : bytes_for (bound_of (picture_for t h.pic_parameter_set_id) h) ≤ length out → (r : Refusal) → (write_header t first x h out).answer ≡ Err r
       → r.number ≡ buffer_too_short → ⊥
   bound-room room r e i = fits_bound room (too_long true t first x h out e i)
 
   -- and what it writes has no more bits than the formula says
-  pub bound-written : (n : ℕ) → (write_header t first x h out).answer ≡ HeaderWrote.Bits n → n ≤ bound_of (picture_for t h.pic_parameter_set_id) h
+  pub bound-written : (n : ℕ) → (write_header t first x h out).answer ≡ Ok n → n ≤ bound_of (picture_for t h.pic_parameter_set_id) h
   bound-written n e =
       let w = wrote t first x h out {n = n} {left = (write_header t first x h out).left} (λ i. record { answer = e i; left = (write_header t first x h out).left }) in
       omega (arith, w.size, header-bound t w.kind h w.is-good)

@@ -11,15 +11,15 @@ use Rattle.syntax.specs.Context.{picture_for}
 use Rattle.header.specs.Short.{HeaderWords}
 use Rattle.record.specs.Record.{header_from, plain}
 use Rattle.writer.specs.declared.given.ExtensionGiven.{ExtensionGiven}
-use Rattle.writer.specs.declared.write.HeaderWrote.{HeaderWrote}
 use Rattle.writer.specs.Write.{write_words}
 use Rattle.writer.proofs.Refusing.{too_long}
 use Rattle.size.specs.InWords.{bound_in}
 use Rattle.size.proofs.InWords.{bound-numbers}
 use Rattle.promises.specs.Bound.{enough}
 use Rattle.promises.proofs.Bound.{fits_bound, fits-enough}
+use Rattle.std.specs.Prelude.{Err}
 
-module _ (t : Table) (first : ℕ) (x : ExtensionGiven) (w : HeaderWords) (out : List ℕ) (r : Refusal) (e : (write_words t first x w out).answer ≡ HeaderWrote.Refused r) where
+module _ (t : Table) (first : ℕ) (x : ExtensionGiven) (w : HeaderWords) (out : List ℕ) (r : Refusal) (e : (write_words t first x w out).answer ≡ Err r) where
   -- a buffer of 6,144 bytes is never too short
   pub words-never-26 : enough ≤ length out → r.number ≡ buffer_too_short → ⊥
   unfolding write_words

@@ -16,7 +16,6 @@ use Rattle.nal.specs.Header.{forbidden_zero_bit_of, header_from, header_of}
 use Rattle.nal.specs.Extension.{extension_of}
 use Rattle.escape.specs.Body.{body}
 use Rattle.table.specs.declared.table.Table.{Table}
-use Rattle.table.specs.declared.words.Changed.{Changed}
 use Rattle.syntax.specs.declared.context.UnitKind.{UnitKind}
 use Rattle.syntax.specs.declared.context.PrefixKind.{PrefixKind}
 use Rattle.syntax.specs.declared.record.SliceHeader.{SliceHeader}
@@ -38,6 +37,8 @@ use Rattle.walk.specs.Walked.{WalkOut, next_step, nothing, Reading, stepped, wal
 use Rattle.walk.proofs.Steps.{refused_over}
 use Rattle.promises.specs.Demands.{body_left, left_by, scratch_after}
 use Rattle.promises.proofs.Numbers.{Placed, Known, header-known, prefix-known, sequence-known, picture-known}
+use Rattle.std.specs.Prelude.{Ok, Err}
+use Rattle.std.specs.Prelude.{⊤, Result}
 
 -- ---- what is read
 
@@ -188,5 +189,5 @@ module _ (R : Reading) (t : Table) (s : List ℕ) (from : ℕ) (scratch : List �
 -- ---- the table
 
 -- what is done is not refused
-pub not_done : {P : Type 0} {r : Refusal} → Changed.Done ≡ Changed.Refused r → P
+pub not_done : {P : Type 0} {r : Refusal} → ◌≡◌ {A = Result ⊤ Refusal} (Ok tt) (Err r) → P
 not_done e = absurd (let z : ◌≡◌ {A = ℕ} 0 1 = (cc e) in omega arith)

@@ -15,7 +15,6 @@ use Rattle.bits.proofs.Results.{cases}
 use Rattle.table.specs.declared.sets.Picture.{Picture}
 use Rattle.table.specs.declared.sets.Sequence.{Sequence}
 use Rattle.table.specs.declared.table.Table.{Table}
-use Rattle.table.specs.declared.words.Changed.{Changed}
 use Rattle.table.specs.Sets.{sequence_fits, picture_fits}
 use Rattle.table.specs.Tables.{sequence_put, widths_after, picture_put, put_sequence, put_picture}
 use Rattle.syntax.specs.declared.context.UnitKind.{UnitKind}
@@ -36,7 +35,6 @@ use Rattle.walk.specs.Walked.{walked}
 use Rattle.walk.specs.Reports.{reports, reports_of, sift, starts_from, ends_before, sets_among, table_at, to_end}
 use Rattle.walk.proofs.Demand as walk
 use Rattle.writer.specs.declared.given.ExtensionGiven.{ExtensionGiven}
-use Rattle.writer.specs.declared.write.HeaderWrote.{HeaderWrote}
 use Rattle.writer.specs.Write.{write_header}
 use Rattle.writer.proofs.Answers.{wrote}
 use Rattle.writer.proofs.Units.{slice-reads}
@@ -44,6 +42,7 @@ use Rattle.writer.proofs.RoundTrip as writer
 use Rattle.writer.proofs.Refusing.{refused-with, told-starts, none_reads, unread-turned}
 use Rattle.promises.specs.Demands.{one_of, read_numbers, body_numbers, write_numbers, scratch_after, unit_of, first_of, extension_in, body_of, body_bits, Stands, UpTo25}
 use Rattle.promises.proofs.Cases.{Alone, unit-fine, unit_left, Idle, walk-idle, not_done}
+use Rattle.std.specs.Prelude.{Ok, Err}
 
 -- ---- demand 1: every call answers as the rules say, for refused input too, and leaves nothing behind that they do not name
 
@@ -64,7 +63,7 @@ module _ (t : Table) (unit scratch : List ℕ) where
   pub demand-1-scratch : (unit_read t unit scratch).left ≡ scratch_after unit scratch
   demand-1-scratch = unit_left t unit scratch
 
-module _ (t : Table) (first : ℕ) (x : ExtensionGiven) (h : SliceHeader) (out : List ℕ) (r : Refusal) (e : (write_header t first x h out).answer ≡ HeaderWrote.Refused r) where
+module _ (t : Table) (first : ℕ) (x : ExtensionGiven) (h : SliceHeader) (out : List ℕ) (r : Refusal) (e : (write_header t first x h out).answer ≡ Err r) where
   -- a refused write alters nothing
   pub demand-1-refused-write : (write_header t first x h out).left ≡ out
   demand-1-refused-write = (refused-with t first x h out e).0
@@ -78,11 +77,11 @@ module _ (t : Table) (first : ℕ) (x : ExtensionGiven) (h : SliceHeader) (out :
 
 -- a refused put alters nothing, and is 24
 module _ (t : Table) (id : ℕ) (r : Refusal) where
-  pub demand-1-refused-table-sequence : (s : Sequence) → (put_sequence t id s).answer ≡ Changed.Refused r → ((put_sequence t id s).table ≡ t) × (r ≡ refusal 24 (pos 0))
+  pub demand-1-refused-table-sequence : (s : Sequence) → (put_sequence t id s).answer ≡ Err r → ((put_sequence t id s).table ≡ t) × (r ≡ refusal 24 (pos 0))
   unfolding sequence_put widths_after
   demand-1-refused-table-sequence s e = cases (leb id 31 && sequence_fits s) (λ g. not_done (rw g at e)) (λ g. (rw g, sym (cc (rw g at e))))
 
-  pub demand-1-refused-table-picture : (p : Picture) → (put_picture t id p).answer ≡ Changed.Refused r → ((put_picture t id p).table ≡ t) × (r ≡ refusal 24 (pos 0))
+  pub demand-1-refused-table-picture : (p : Picture) → (put_picture t id p).answer ≡ Err r → ((put_picture t id p).table ≡ t) × (r ≡ refusal 24 (pos 0))
   unfolding picture_put
   demand-1-refused-table-picture p e = cases (leb id 255 && picture_fits p) (λ g. not_done (rw g at e)) (λ g. (rw g, sym (cc (rw g at e))))
 
@@ -115,7 +114,7 @@ module _ (t : Table) (k : UnitKind) (s : Bits) (h : SliceHeader) (e : ℕ) where
 
 -- what is written reads back, in every unit that starts as the writer was told and whose body starts with the bits written
 pub demand-2-reads-back : (t : Table) (first : ℕ) (x : ExtensionGiven) (h : SliceHeader) (out : List ℕ) {n : ℕ} {left : List ℕ}
-    → write_header t first x h out ≡ record { answer = HeaderWrote.Bits n; left = left }
+    → write_header t first x h out ≡ record { answer = Ok n; left = left }
     → (v : List ℕ) (q : Bits) → body_bits v ≡ take n (bits_of left) ++ q → any_set (drop 1 q) ≡ true
     → length (unit_of first x v) ≤ limit → (scratch : List ℕ) → length (unit_of first x v) ≤ length scratch
     → (unit_read t (unit_of first x v) scratch).read ≡ record { answer = UnitAnswer.Slice n; header = h; prefix = no_prefix }
@@ -125,7 +124,7 @@ demand-2-reads-back t first x h out w v q b m small scratch room =
 -- what was read is written to the bits that stood there
 module _ (t : Table) (u scratch : List ℕ) (h : SliceHeader) (e : ℕ) (a : (unit_read t u scratch).read.answer ≡ UnitAnswer.Slice e) (r : (unit_read t u scratch).read.header ≡ h) where
   pub demand-2-rewrites : (out : List ℕ) → bytes_for e ≤ length out
-      → write_header t (first_of u) (extension_in u) h out ≡ record { answer = HeaderWrote.Bits e; left = put_bits out 0 (take e (body_bits (body_of u))) }
+      → write_header t (first_of u) (extension_in u) h out ≡ record { answer = Ok e; left = put_bits out 0 (take e (body_bits (body_of u))) }
   demand-2-rewrites = writer.rewrites t u scratch h e a r
 
   pub demand-2-rewritten-bits : (out : List ℕ) → bytes_for e ≤ length out
@@ -134,7 +133,7 @@ module _ (t : Table) (u scratch : List ℕ) (h : SliceHeader) (e : ℕ) (a : (un
 
 -- 25 is exact: where it is given, no unit that starts as the writer was told reads as the record; where no bits read to it, the answer is neither bits nor 26
 module _ (t : Table) (first : ℕ) (x : ExtensionGiven) (h : SliceHeader) (out : List ℕ) where
-  pub demand-2-25-exact : (write_header t first x h out).answer ≡ HeaderWrote.Refused (refusal no_bits (pos 0)) → (v scratch : List ℕ) (e : ℕ)
+  pub demand-2-25-exact : (write_header t first x h out).answer ≡ Err (refusal no_bits (pos 0)) → (v scratch : List ℕ) (e : ℕ)
       → (unit_read t (unit_of first x v) scratch).read.answer ≡ UnitAnswer.Slice e → (unit_read t (unit_of first x v) scratch).read.header ≡ h → ⊥
   demand-2-25-exact = none_reads t first x h out
 

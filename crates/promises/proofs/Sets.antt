@@ -11,7 +11,6 @@ use Rattle.bits.specs.Bits.{Bits, bytes_bits}
 use Rattle.bits.proofs.Results.{cases}
 use Rattle.escape.specs.Body.{body}
 use Rattle.table.specs.declared.table.Table.{Table}
-use Rattle.table.specs.declared.words.Changed.{Changed}
 use Rattle.table.specs.Sets.{sequence_fits, picture_fits}
 use Rattle.table.specs.Tables.{sequence_put, picture_put, put_sequence, put_picture}
 use Rattle.table.specs.Made.{Change, changed, made_from, made}
@@ -37,6 +36,7 @@ use Rattle.walk.specs.Reports.{table_by}
 use Rattle.walk.proofs.Steps.{table_of}
 use Rattle.promises.specs.Demands.{body_bits}
 use Rattle.promises.specs.Sets.{change_of, changes_in}
+use Rattle.std.specs.Prelude.{Ok}
 
 -- ---- what a set's unit reads as
 
@@ -98,11 +98,11 @@ module _ (t : Table) (unit scratch : List ℕ) where
       go (Begun.Refused r) = tt
 
   -- putting it is done, whatever the table
-  pub sets-sequence-put : (v : SequenceSet) → (unit_read t unit scratch).read.answer ≡ UnitAnswer.Sequence v → (t' : Table) → (put_sequence t' v.seq_parameter_set_id v.sequence).answer ≡ Changed.Done
+  pub sets-sequence-put : (v : SequenceSet) → (unit_read t unit scratch).read.answer ≡ UnitAnswer.Sequence v → (t' : Table) → (put_sequence t' v.seq_parameter_set_id v.sequence).answer ≡ Ok tt
   unfolding sequence_put
   sets-sequence-put v e t' = rw (subst SetFits e unit-fits)
 
-  pub sets-picture-put : (v : PictureSet) → (unit_read t unit scratch).read.answer ≡ UnitAnswer.Picture v → (t' : Table) → (put_picture t' v.pic_parameter_set_id v.picture).answer ≡ Changed.Done
+  pub sets-picture-put : (v : PictureSet) → (unit_read t unit scratch).read.answer ≡ UnitAnswer.Picture v → (t' : Table) → (put_picture t' v.pic_parameter_set_id v.picture).answer ≡ Ok tt
   unfolding picture_put
   sets-picture-put v e t' = rw (subst SetFits e unit-fits)
 

@@ -11,7 +11,8 @@ use Rattle.header.specs.Kinds.{is_extended}
 use Rattle.unit.specs.declared.begin.Begun.{Begun}
 use Rattle.unit.specs.Begin.{begun}
 use Rattle.writer.specs.declared.given.ExtensionGiven.{ExtensionGiven}
-use Rattle.writer.specs.declared.write.HeaderWrote.{HeaderWrote}
+use Rattle.std.specs.Prelude.{Result, Ok, Err}
+use Rattle.bits.specs.declared.refusals.Refusal.{Refusal}
 
 abbrev pub one_of : List ℕ → ℕ → Bool
 one_of [] n = false
@@ -73,6 +74,6 @@ Stands t k s h e =
     T ((header t k).good h) × ((e ≡ length ((header t k).bits h)) × ((take e s ≡ (header t k).bits h) × (any_set (drop (e + 1) s) ≡ true)))
 
 -- the writer's answer is one of its checks up to 25: neither bits nor 26
-abbrev pub UpTo25 : HeaderWrote → Type 0
-UpTo25 (HeaderWrote.Bits n) = ⊥
-UpTo25 (HeaderWrote.Refused r) = T (one_of (2 ∷ 3 ∷ 4 ∷ 13 ∷ 8 ∷ 9 ∷ 10 ∷ 25 ∷ []) r.number)
+abbrev pub UpTo25 : Result ℕ Refusal → Type 0
+UpTo25 (Ok n) = ⊥
+UpTo25 (Err r) = T (one_of (2 ∷ 3 ∷ 4 ∷ 13 ∷ 8 ∷ 9 ∷ 10 ∷ 25 ∷ []) r.number)

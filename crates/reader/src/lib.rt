@@ -2,11 +2,11 @@
 #![tactic(auto)]
 
 ghost use Rattle.std.specs.Prelude.{◌≡◌};
-ghost use Rattle.bits.specs.Answers.{as_read, as_signed, as_flag};
 ghost use Rattle.bits.specs.Bits.{bits_of};
 ghost use Rattle.bits.specs.Codes.{u_at, flag_at, ue_at, se_at};
+ghost use Rattle.bits.specs.Answers.{as_read};
 
-use bits::read::{Cursor, Read, ReadFlag, ReadSigned};
+use bits::read::{Cursor, Read};
 
 #[derive(Clone, Copy)]
 pub struct Reader<'a> {
@@ -32,32 +32,32 @@ pub fn moved<'a>(r: Reader<'a>, c: Cursor) -> Reader<'a>
 }
 
 // The next n bits, a flag, ue(v), se(v): the value and the moved cursor, or the refusal.
-pub fn read_bits<'a>(r: Reader<'a>, n: u32) -> Read
+pub fn read_bits<'a>(r: Reader<'a>, n: u32) -> Read<u32>
     ensures { as_read result ≡ u_at n (bits_of r.entry.body.now) r.entry.at }
 {
     Cursor { at: r.at }.bits(r.body, n)
 }
 
-pub fn read_flag<'a>(r: Reader<'a>) -> ReadFlag
-    ensures { as_flag result ≡ flag_at (bits_of r.entry.body.now) r.entry.at }
+pub fn read_flag<'a>(r: Reader<'a>) -> Read<bool>
+    ensures { as_read result ≡ flag_at (bits_of r.entry.body.now) r.entry.at }
 {
     Cursor { at: r.at }.flag(r.body)
 }
 
-pub fn read_ue<'a>(r: Reader<'a>) -> Read
+pub fn read_ue<'a>(r: Reader<'a>) -> Read<u32>
     ensures { as_read result ≡ ue_at (bits_of r.entry.body.now) r.entry.at }
 {
     Cursor { at: r.at }.ue(r.body)
 }
 
-pub fn read_se<'a>(r: Reader<'a>) -> ReadSigned
-    ensures { as_signed result ≡ se_at (bits_of r.entry.body.now) r.entry.at }
+pub fn read_se<'a>(r: Reader<'a>) -> Read<i32>
+    ensures { as_read result ≡ se_at (bits_of r.entry.body.now) r.entry.at }
 {
     Cursor { at: r.at }.se(r.body)
 }
 
 // Plain parameters above the reader: the first code of a body.
-pub fn first_ue(s: &[u8]) -> Read
+pub fn first_ue(s: &[u8]) -> Read<u32>
     ensures { as_read result ≡ ue_at (bits_of s.now) 0 }
 {
     read_ue(new(s))

@@ -1,13 +1,11 @@
 -- A header's fields out of its words: `n` are the numbers, flags and marks, `z` the signed numbers. Words and fields stand in one order (short/specs/Short, `numbers_of`).
 use Rattle.std.specs.Prelude.{ℕ, ◌+◌, Bool, not, List, eqb, ℤ, pos, get_or}
-use Rattle.syntax.specs.declared.marks.MarkedFlag.{MarkedFlag}
-use Rattle.syntax.specs.declared.marks.MarkedNumber.{MarkedNumber}
-use Rattle.syntax.specs.declared.marks.MarkedSigned.{MarkedSigned}
 use Rattle.syntax.specs.declared.record.Frame.{Frame}
 use Rattle.syntax.specs.declared.record.OrderCount.{OrderCount}
 use Rattle.syntax.specs.declared.record.ActiveCounts.{ActiveCounts}
 use Rattle.syntax.specs.declared.record.Quantiser.{Quantiser}
 use Rattle.syntax.specs.declared.record.Filter.{Filter}
+use Rattle.syntax.specs.declared.marks.Marked.{Marked}
 
 abbrev pub number_in : List ℕ → ℕ → ℕ
 number_in n k = get_or n k 0
@@ -21,14 +19,14 @@ set_in n k = not (eqb (number_in n k) 0)
 
 -- what may be absent: its mark, then its value
 
-abbrev pub marked_number : List ℕ → ℕ → MarkedNumber
+abbrev pub marked_number : List ℕ → ℕ → (Marked ℕ)
 marked_number n k = record { there = set_in n k; value = number_in n (k + 1) }
 
-abbrev pub marked_flag : List ℕ → ℕ → MarkedFlag
+abbrev pub marked_flag : List ℕ → ℕ → (Marked Bool)
 marked_flag n k = record { there = set_in n k; value = set_in n (k + 1) }
 
 -- a signed one's value stands among the signed numbers, at j
-abbrev pub marked_signed : List ℕ → List ℤ → ℕ → ℕ → MarkedSigned
+abbrev pub marked_signed : List ℕ → List ℤ → ℕ → ℕ → (Marked ℤ)
 marked_signed n z k j = record { there = set_in n k; value = signed_in z j }
 
 -- ---- the parts without lists

@@ -14,14 +14,12 @@ pub fn operations_of(count: u32, words: &[u32; 198]) -> Operations
     let mut codes = [0u32; 66];
     let mut first = [0u32; 66];
     let mut second = [0u32; 66];
-    let mut i: u32 = 0;
-    while i < used {
+    for i in 0..used {
         let j = i as usize;
         let k = 3 * j;
         codes[j] = words[k];
         first[j] = words[k + 1];
         second[j] = words[k + 2];
-        i += 1;
     }
     Operations {
         count: used,
@@ -77,11 +75,9 @@ pub fn weights_of(count: u32, words: &[i32; 256]) -> WeightList
 {
     let used = at_most_32(count);
     let mut entries = no_entries();
-    let mut i: u32 = 0;
-    while i < used {
+    for i in 0..used {
         let k = i as usize;
         entries[k] = weight_at(words, k);
-        i += 1;
     }
     WeightList {
         count: used,

@@ -2,35 +2,35 @@
 ghost use Rattle.std.specs.Prelude.{◌≡◌, ◌<◌};
 ghost use Rattle.record.specs.Fields.{marked_number, marked_flag, marked_signed, frame_from, order_count_from, active_counts_from, quantiser_from, filter_from};
 
-use syntax::marks::{MarkedFlag, MarkedNumber, MarkedSigned};
+use syntax::marks::Marked;
 use syntax::record::{ActiveCounts, Deltas, Filter, Frame, OrderCount, Quantiser};
 
-pub(crate) fn marked_number(numbers: &[u32; 57], k: usize) -> MarkedNumber
+pub(crate) fn marked_number(numbers: &[u32; 57], k: usize) -> Marked<u32>
     requires { k < 56 }
     ensures { result ≡ marked_number numbers.now k }
 {
-    MarkedNumber {
+    Marked {
         there: numbers[k] != 0,
         value: numbers[k + 1],
     }
 }
 
-pub(crate) fn marked_flag(numbers: &[u32; 57], k: usize) -> MarkedFlag
+pub(crate) fn marked_flag(numbers: &[u32; 57], k: usize) -> Marked<bool>
     requires { k < 56 }
     ensures { result ≡ marked_flag numbers.now k }
 {
-    MarkedFlag {
+    Marked {
         there: numbers[k] != 0,
         value: numbers[k + 1] != 0,
     }
 }
 
 // A signed one's mark stands among the numbers, at k, and its value among the signed ones, at j.
-fn marked_signed(numbers: &[u32; 57], signed: &[i32; 7], k: usize, j: usize) -> MarkedSigned
+fn marked_signed(numbers: &[u32; 57], signed: &[i32; 7], k: usize, j: usize) -> Marked<i32>
     requires { (k < 57) × (j < 7) }
     ensures { result ≡ marked_signed numbers.now signed.now k j }
 {
-    MarkedSigned {
+    Marked {
         there: numbers[k] != 0,
         value: signed[j],
     }

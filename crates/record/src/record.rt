@@ -1,11 +1,13 @@
 // The record that lent words hold, taken out of them.
 ghost use Rattle.std.specs.Prelude.{◌≡◌};
 ghost use Rattle.record.specs.Record.{modifications_from, weight_table_from, marking_from, header_from, prefix_from};
+ghost use Rattle.header.specs.Short.{words_in};
 
 use crate::entries::{operations_of, weights_of};
 use crate::parts_of::{
     active_counts_of, filter_of, frame_of, marked_flag, marked_number, order_count_of, quantiser_of,
 };
+use header::slice::Words;
 use lists::list_words::PrefixShort;
 use syntax::record::{
     DecRefPicMarking, Modification, Modifications, PredWeightTable, Prefix, SliceHeader,
@@ -49,17 +51,16 @@ fn marking_of(numbers: &[u32; 57], words: &[u32; 198]) -> DecRefPicMarking
     }
 }
 
-pub fn header_of(
-    numbers: &[u32; 57],
-    signed: &[i32; 7],
-    l0: &[u32; 198],
-    l1: &[u32; 198],
-    marking: &[u32; 198],
-    w0: &[i32; 256],
-    w1: &[i32; 256],
-) -> SliceHeader
-    ensures { result ≡ header_from (record { numbers = numbers.entry.now; signed = signed.now; l0 = l0.now; l1 = l1.now; marking = marking.now; w0 = w0.now; w1 = w1.now }) }
+pub fn header_of(w: &Words<'_>) -> SliceHeader
+    ensures { result ≡ header_from (words_in w.now) }
 {
+    let numbers: &[u32; 57] = w.numbers;
+    let signed: &[i32; 7] = w.signed;
+    let l0: &[u32; 198] = w.l0;
+    let l1: &[u32; 198] = w.l1;
+    let marking: &[u32; 198] = w.marking;
+    let w0: &[i32; 256] = w.w0;
+    let w1: &[i32; 256] = w.w1;
     SliceHeader {
         first_mb_in_slice: numbers[0],
         slice_type: numbers[1],

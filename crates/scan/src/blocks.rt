@@ -4,13 +4,6 @@
 ghost use Rattle.std.specs.Prelude.{true, ◌≡◌, ◌+◌, ◌*◌, ◌<◌, ◌≤◌, length};
 ghost use Rattle.scan.specs.Clear.{Spot, Clear, pair_at, Low, Quiet};
 
-// The smaller of two bytes.
-fn lower(a: u8, b: u8) -> u8
-    ensures { (result ≤ a) × (result ≤ b) }
-{
-    if a < b { a } else { b }
-}
-
 // 0 where 00 00 and a byte that is sought stand at `j`.
 fn trace(s: &[u8], j: usize, mask: u8, flip: u8) -> u8
     requires { j + 2 < length s.now }
@@ -25,10 +18,8 @@ fn is_clear(s: &[u8], i: usize, count: usize, mask: u8, flip: u8) -> bool
     ensures { result ≡ true → Clear mask flip s.now i (i + count) }
 {
     let mut m: u8 = 255;
-    let mut k: usize = 0;
-    while k < count {
-        m = lower(m, trace(s, i + k, mask, flip));
-        k += 1;
+    for k in 0..count {
+        m = m.min(trace(s, i + k, mask, flip));
     }
     0 < m
 }
@@ -62,10 +53,8 @@ fn is_quiet(s: &[u8], i: usize, half: usize) -> bool
     ensures { result ≡ true → Quiet s.now i half }
 {
     let mut m: u16 = 0;
-    let mut k: usize = 0;
-    while k < half {
+    for k in 0..half {
         m = m | low(s, i + 1 + 2 * k);
-        k += 1;
     }
     m == 0
 }
@@ -89,17 +78,13 @@ fn is_calm(s: &[u8], i: usize) -> bool
     ensures { result ≡ true → Quiet s.now i 64 }
 {
     let mut t = [0u8; 32];
-    let mut k: usize = 0;
-    while k < 32 {
+    for k in 0..32 {
         let j = i + 1 + k;
-        t[k] = lower(lower(s[j], s[j + 32]), lower(s[j + 64], s[j + 96]));
-        k += 1;
+        t[k] = s[j].min(s[j + 32]).min(s[j + 64].min(s[j + 96]));
     }
     let mut m: u16 = 0;
-    let mut p: usize = 0;
-    while p < 16 {
+    for p in 0..16 {
         m = m | low(&t, 2 * p);
-        p += 1;
     }
     m == 0
 }
@@ -128,11 +113,9 @@ fn first_of(s: &[u8], i: usize, count: u8, mask: u8, flip: u8) -> u8
     ensures { (result ≤ count) × Clear mask flip s.now i (i + result) }
 {
     let mut m = count;
-    let mut k: u8 = 0;
-    while k < count {
+    for k in 0..count {
         let x = trace(s, i + k as usize, mask, flip);
-        m = lower(m, place_of(x, k, count));
-        k += 1;
+        m = place_of(x, k, count).min(m);
     }
     m
 }
@@ -178,13 +161,8 @@ fn pass_end(s: &[u8], from: usize, mask: u8, flip: u8) -> usize
     ensures { (from ≤ result) × (result ≤ length s.now) × Clear mask flip s.now from result }
 {
     let n = s.len();
-    if 130 <= n {
-        if is_passed(s, n - 130, 64, mask, flip) {
-            if from < n - 2 {
-                return n - 2;
-            }
-            return from;
-        }
+    if 130 <= n && is_passed(s, n - 130, 64, mask, flip) {
+        return from.max(n - 2);
     }
     pass_small(s, from, mask, flip)
 }

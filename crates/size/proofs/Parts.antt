@@ -19,7 +19,6 @@ use Rattle.fmt.proofs.Lawful.{both-0, both-1, T_true}
 use Rattle.fmt.proofs.Sizes.{Short, u-short, ue-short, se-short, shaped-short, test_short}
 use Rattle.table.specs.declared.table.Table.{Table}
 use Rattle.syntax.specs.declared.context.Context.{Context}
-use Rattle.syntax.specs.declared.marks.MarkedFlag.{MarkedFlag}
 use Rattle.syntax.specs.declared.record.Operations.{Operations}
 use Rattle.syntax.specs.Marks.{is_zero_z, number_if, signed_if, flag_if, given}
 use Rattle.syntax.specs.Lists.{entries, of_operations, ok_operations, code, operands, operations, no_operations, is_no_operations, operations_if}
@@ -32,6 +31,7 @@ use Rattle.syntax.proofs.HeaderSize.{modifications-within, pred_weight_table-wit
 use Rattle.size.specs.Size.{lead_most, frame_most, order_most, counts_most, modification_most, weights_most, marking_most, quantiser_most, filter_most}
 use Rattle.size.proofs.Deltas.{se-small, qp-near, qs-near, offset_near}
 use Rattle.size.proofs.Sized.{Sized}
+use Rattle.syntax.specs.declared.marks.Marked.{Marked}
 
 -- ---- numbers that a test bounds
 
@@ -191,7 +191,7 @@ unfolding operations_if given shaped when
 no-list true there o h = absurd (both-1 (not there) false h)
 no-list false there o h = omega arith
 
-no_flag : (v : MarkedFlag × Operations) → T ((seq (flag_if false) (λ a. operations_if a.value marking_kind)).good v)
+no_flag : (v : (Marked Bool) × Operations) → T ((seq (flag_if false) (λ a. operations_if a.value marking_kind)).good v)
     → length ((seq (flag_if false) (λ a. operations_if a.value marking_kind)).bits v) ≤ 0
 unfolding seq flag_if shaped when
 no_flag v g = no-list v.0.value v.0.there v.1 (both-0 (not v.0.there && not v.0.value) _ g)

@@ -8,14 +8,13 @@ use lib.Signed.{mag, le_z}
 use Rattle.table.specs.declared.sets.Picture.{Picture}
 use Rattle.table.specs.declared.sets.Sequence.{Sequence}
 use Rattle.table.specs.declared.table.Table.{Table}
-use Rattle.table.specs.declared.words.FoundPicture.{FoundPicture}
-use Rattle.table.specs.declared.words.FoundSequence.{FoundSequence}
 use Rattle.table.specs.Sets.{between_z}
-use Rattle.table.specs.Tables.{picture_at, sequence_at}
+use Rattle.table.specs.Tables.{found_picture, picture_at, sequence_at}
 use Rattle.table.proofs.Entries.{found-picture, found-picture-ranges, found-sequence-ranges}
 use Rattle.syntax.specs.declared.context.UnitKind.{UnitKind}
 use Rattle.syntax.specs.declared.context.Context.{Context}
 use Rattle.syntax.specs.Context.{picture_in, width_in, sequence_in, picture_for, width_for, sequence_id_for, sequence_for, context_for}
+use Rattle.std.specs.Prelude.{Option, Some, None}
 
 pub record SizedPicture (p : Picture) : Type 0 where
   pub qp-mag : mag p.pic_init_qp_minus26 ≤ 61
@@ -32,17 +31,17 @@ pub record Sized (x : Context) : Type 0 where
   pub sequence : SizedSequence x.sequence
   pub width : x.cycle_width ≤ 25
 
-by-picture : (f : FoundPicture) → ((p : Picture) (w : ℕ) → f ≡ FoundPicture.There p w → SizedPicture p) → SizedPicture (picture_in f)
-by-picture (FoundPicture.There p w) h = h p w refl
-by-picture FoundPicture.Absent h = record { qp-mag = omega arith; qp-most = refl; qs = refl }
+by-picture : (f : Option (Picture × ℕ)) → ((p : Picture) (w : ℕ) → f ≡ found_picture p w → SizedPicture p) → SizedPicture (picture_in f)
+by-picture (found_picture p w) h = h p w refl
+by-picture None h = record { qp-mag = omega arith; qp-most = refl; qs = refl }
 
-by_width : (f : FoundPicture) → ((p : Picture) (w : ℕ) → f ≡ FoundPicture.There p w → w ≤ 25) → width_in f ≤ 25
-by_width (FoundPicture.There p w) h = h p w refl
-by_width FoundPicture.Absent h = omega arith
+by_width : (f : Option (Picture × ℕ)) → ((p : Picture) (w : ℕ) → f ≡ found_picture p w → w ≤ 25) → width_in f ≤ 25
+by_width (found_picture p w) h = h p w refl
+by_width None h = omega arith
 
-by-sequence : (f : FoundSequence) → ((s : Sequence) → f ≡ FoundSequence.There s → SizedSequence s) → SizedSequence (sequence_in f)
-by-sequence (FoundSequence.There s) h = h s refl
-by-sequence FoundSequence.Absent h = record { depth = omega arith; frame-num = omega arith; units = omega arith }
+by-sequence : (f : Option Sequence) → ((s : Sequence) → f ≡ Some s → SizedSequence s) → SizedSequence (sequence_in f)
+by-sequence (Some s) h = h s refl
+by-sequence None h = record { depth = omega arith; frame-num = omega arith; units = omega arith }
 
 pub sized : (t : Table) (n : UnitKind) (id : ℕ) → Sized (context_for t n id)
 unfolding context_for picture_for sequence_for width_for

@@ -8,8 +8,8 @@ ghost use Rattle.size.specs.InWords.{bound_in};
 
 use lists::list_words::at_most_66;
 use record::parts_of::active_counts_of;
-use syntax::marks::MarkedNumber;
-use table::words::{FoundPicture, picture_in};
+use syntax::marks::Marked;
+use table::words::picture_in;
 
 // The counts minus 1 that a slice has by its picture set.
 #[derive(Clone, Copy)]
@@ -23,15 +23,15 @@ fn default_counts(pictures: &[u32; 2304], id: u32) -> Defaults
     ensures { (result.l0 ≡ (picture_in (tables.picture_in pictures.now id)).num_ref_idx_l0_default_active_minus1) × (result.l1 ≡ (picture_in (tables.picture_in pictures.now id)).num_ref_idx_l1_default_active_minus1) }
 {
     match picture_in(pictures, id) {
-        FoundPicture::There(p, _) => Defaults {
+        Some((p, _)) => Defaults {
             l0: p.num_ref_idx_l0_default_active_minus1,
             l1: p.num_ref_idx_l1_default_active_minus1,
         },
-        FoundPicture::Absent => Defaults { l0: 0, l1: 0 },
+        None => Defaults { l0: 0, l1: 0 },
     }
 }
 
-fn own_or(m: MarkedNumber, default: u32) -> u32
+fn own_or(m: Marked<u32>, default: u32) -> u32
     ensures { result ≡ pick m.there m.value default }
 {
     if m.there { m.value } else { default }

@@ -2,7 +2,6 @@
 use Rattle.std.specs.Prelude.{ℕ, Bool, not, ◌&&◌, List, [], eqb, ℤ}
 use Rattle.bits.specs.Refusals.{pick}
 use Rattle.table.specs.declared.table.Table.{Table}
-use Rattle.syntax.specs.declared.marks.MarkedNumber.{MarkedNumber}
 use Rattle.syntax.specs.declared.record.SliceHeader.{SliceHeader}
 use Rattle.syntax.specs.Context.{sequence_for}
 use Rattle.record.specs.Record.{header_from}
@@ -12,9 +11,10 @@ use Rattle.lines.specs.Level.{final_qp}
 use Rattle.exposures.specs.declared.slice.Slice.{Slice}
 use Rattle.exposures.specs.declared.slice.Kind.{Kind}
 use Rattle.exposures.specs.declared.slice.Item.{Item}
+use Rattle.syntax.specs.declared.marks.Marked.{Marked}
 
 -- redundant_pic_cnt is there, and not 0
-abbrev pub is_redundant : MarkedNumber → Bool
+abbrev pub is_redundant : (Marked ℕ) → Bool
 is_redundant m = m.there && not (eqb m.value 0)
 
 -- a slice at a place, by its unit's nal_unit_type and nal_ref_idc; a field that is absent was read as zero. QP is by its own picture set, what stands in a sequence set by

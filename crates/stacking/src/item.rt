@@ -11,9 +11,9 @@ use exposures::slice::{Item, Kind, Slice};
 use fields::conditions::either;
 use fields::quant::level;
 use record::parts_of::{frame_of, order_count_of};
-use syntax::marks::MarkedNumber;
+use syntax::marks::Marked;
 use table::sets::Sequence;
-use table::words::{FoundPicture, FoundSequence, picture_in, sequence_in};
+use table::words::{picture_in, sequence_in};
 use unit::into::ShortAnswer;
 
 fn no_sequence() -> Sequence
@@ -44,11 +44,11 @@ fn named(pictures: &[u32; 2304], id: u32) -> PictureUse
     ensures { (result.seq_parameter_set_id ≡ (picture_in (tables.picture_in pictures.now id)).seq_parameter_set_id) × (result.pic_init_qp_minus26 ≡ (picture_in (tables.picture_in pictures.now id)).pic_init_qp_minus26) }
 {
     match picture_in(pictures, id) {
-        FoundPicture::There(p, _) => PictureUse {
+        Some((p, _)) => PictureUse {
             seq_parameter_set_id: p.seq_parameter_set_id,
             pic_init_qp_minus26: p.pic_init_qp_minus26,
         },
-        FoundPicture::Absent => PictureUse {
+        None => PictureUse {
             seq_parameter_set_id: 0,
             pic_init_qp_minus26: 0,
         },
@@ -59,8 +59,8 @@ fn sequence_of(sequences: &[u32; 224], id: u32) -> Sequence
     ensures { result ≡ sequence_in (tables.sequence_in sequences.now id) }
 {
     match sequence_in(sequences, id) {
-        FoundSequence::There(s) => s,
-        FoundSequence::Absent => no_sequence(),
+        Some(s) => s,
+        None => no_sequence(),
     }
 }
 
@@ -104,7 +104,7 @@ fn slice_of<'a>(
     }
 }
 
-fn is_redundant(m: MarkedNumber) -> bool
+fn is_redundant(m: Marked<u32>) -> bool
     ensures { result ≡ is_redundant m }
 {
     if m.there { m.value != 0 } else { false }

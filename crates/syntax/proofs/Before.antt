@@ -7,14 +7,15 @@ use Rattle.bits.specs.Width.{change_cycle_width}
 use Rattle.bits.proofs.Widths.{width-least}
 use Rattle.fmt.specs.Fmt.{seq, shaped}
 use Rattle.table.specs.declared.table.Table.{Table}
-use Rattle.table.specs.declared.words.FoundPicture.{FoundPicture}
-use Rattle.table.specs.declared.words.FoundSequence.{FoundSequence}
-use Rattle.table.specs.Tables.{cycle_width, picture_at, sequence_at}
+use Rattle.table.specs.Tables.{found_picture, cycle_width, picture_at, sequence_at}
 use Rattle.table.specs.Made.{TrueWidths}
 use Rattle.syntax.specs.Context.{picture_in, width_in, sequence_in, picture_for, width_for, sequence_id_for, sequence_for, context_for}
 use Rattle.syntax.specs.SliceHeader.{lead, parts, to_header, of_header, header}
 use Rattle.syntax.specs.Before.{worked_out, header_before}
 use Rattle.syntax.specs.declared.context.UnitKind.{UnitKind}
+use Rattle.std.specs.Prelude.{Option, Some, None}
+use Rattle.table.specs.declared.sets.Picture.{Picture}
+use Rattle.table.specs.declared.sets.Sequence.{Sequence}
 
 -- without a rate there is no width, and without a sequence set there is none to work out either
 unrated : (size : ℕ) → change_cycle_width size 0 ≡ 0
@@ -25,15 +26,15 @@ unsized : (rate : ℕ) → change_cycle_width 0 rate ≡ 0
 unsized zero = unrated 0
 unsized (suc r) = omega (arith, width-least 0 (suc r) 0 (omega arith) (omega arith) (omega arith))
 
-by-sequence : (f : FoundSequence) (rate : ℕ) → cycle_width f rate ≡ change_cycle_width (sequence_in f).pic_size_in_map_units rate
-by-sequence (FoundSequence.There s) rate = refl
-by-sequence FoundSequence.Absent rate = let e = unsized rate in omega arith
+by-sequence : (f : Option Sequence) (rate : ℕ) → cycle_width f rate ≡ change_cycle_width (sequence_in f).pic_size_in_map_units rate
+by-sequence (Some s) rate = refl
+by-sequence None rate = let e = unsized rate in omega arith
 
 module _ (t : Table) (v : TrueWidths t) where
-  by-picture : (id : ℕ) (f : FoundPicture) → picture_at t id ≡ f
+  by-picture : (id : ℕ) (f : Option (Picture × ℕ)) → picture_at t id ≡ f
       → width_in f ≡ change_cycle_width (sequence_in (sequence_at t (picture_in f).seq_parameter_set_id)).pic_size_in_map_units (picture_in f).slice_group_change_rate
-  by-picture id (FoundPicture.There p w) e = v id p w e ∙ by-sequence (sequence_at t p.seq_parameter_set_id) _
-  by-picture id FoundPicture.Absent e = let z = unrated (sequence_in (sequence_at t 0)).pic_size_in_map_units in omega arith
+  by-picture id (found_picture p w) e = v id p w e ∙ by-sequence (sequence_at t p.seq_parameter_set_id) _
+  by-picture id None e = let z = unrated (sequence_in (sequence_at t 0)).pic_size_in_map_units in omega arith
 
   width_is : (id : ℕ) → width_for t id ≡ change_cycle_width (sequence_for t id).pic_size_in_map_units (picture_for t id).slice_group_change_rate
   unfolding width_for sequence_for sequence_id_for picture_for

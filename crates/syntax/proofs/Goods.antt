@@ -6,11 +6,11 @@ use lib.Dec.{T, leb→le}
 use lib.IntN.{ℤ}
 use Rattle.fmt.specs.Fmt.{Fmt, seq, shaped, test, when}
 use Rattle.fmt.proofs.Lawful.{both-0, both-1}
-use Rattle.syntax.specs.declared.marks.MarkedNumber.{MarkedNumber}
 use Rattle.syntax.specs.declared.record.ActiveCounts.{ActiveCounts}
 use Rattle.syntax.specs.Marks.{is_zero, number_if}
 use Rattle.syntax.specs.SliceHeader.{active_minus1, active_counts}
 use Rattle.syntax.proofs.Absent.{zero_is}
+use Rattle.syntax.specs.declared.marks.Marked.{Marked}
 
 module _ {A B : Type 0} (F : Fmt A) (G : A → Fmt B) (v : A × B) where
   pub seq-first : T ((seq F G).good v) → T (F.good v.0)
@@ -36,13 +36,13 @@ module _ {A : Type 0} (ok : A → Bool) (n : ℕ) (value : A → ℤ) (F : Fmt A
   test-ok = both-0 (ok a) (F.good a)
 
 -- what holds of 0 and of every good value holds of a value that may be absent
-pub number_if-all : (P : ℕ → Type 0) (b : Bool) (F : Fmt ℕ) → P 0 → ((v : ℕ) → T (F.good v) → P v) → (m : MarkedNumber) → T ((number_if b F).good m) → P m.value
+pub number_if-all : (P : ℕ → Type 0) (b : Bool) (F : Fmt ℕ) → P 0 → ((v : ℕ) → T (F.good v) → P v) → (m : (Marked ℕ)) → T ((number_if b F).good m) → P m.value
 unfolding number_if when shaped
 number_if-all P true F z f m g = f m.value (both-1 m.there (F.good m.value) g)
 number_if-all P false F z f m g = rw (zero_is m.value (both-1 (not m.there) (is_zero m.value) g)) z
 
 -- a good count of references, where it may be absent
-few : (b : Bool) (m : MarkedNumber) → T ((number_if b active_minus1).good m) → m.value ≤ 31
+few : (b : Bool) (m : (Marked ℕ)) → T ((number_if b active_minus1).good m) → m.value ≤ 31
 unfolding active_minus1
 few b = number_if-all (λ v. v ≤ 31) b active_minus1 (omega arith) (λ v g. leb→le v 31 (test-ok _ _ _ _ v g))
 

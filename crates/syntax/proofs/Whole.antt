@@ -12,7 +12,6 @@ use Rattle.table.specs.declared.table.Table.{Table}
 use Rattle.syntax.specs.declared.context.UnitKind.{UnitKind}
 use Rattle.syntax.specs.declared.context.PrefixKind.{PrefixKind}
 use Rattle.syntax.specs.declared.context.Context.{Context}
-use Rattle.syntax.specs.declared.marks.MarkedNumber.{MarkedNumber}
 use Rattle.syntax.specs.Context.{sequence_id_for, context_for}
 use Rattle.syntax.specs.SliceHeader.{active_of, lead, parts, to_header, of_header, header}
 use Rattle.syntax.specs.Prefix.{prefix}
@@ -22,9 +21,10 @@ use Rattle.syntax.proofs.Parts.{lead-lawful, frame-lawful, order_count-lawful, a
 use Rattle.syntax.proofs.Weights.{pred_weight_table-lawful}
 use Rattle.syntax.proofs.Sets.{Few, defaults-few}
 use Rattle.syntax.proofs.Goods.{counts-few}
+use Rattle.syntax.specs.declared.marks.Marked.{Marked}
 
 -- a list has at most 32 references
-pub active-few : (m : MarkedNumber) (default : ℕ) → m.value ≤ 31 → default ≤ 31 → active_of m default ≤ 32
+pub active-few : (m : (Marked ℕ)) (default : ℕ) → m.value ≤ 31 → default ≤ 31 → active_of m default ≤ 32
 active-few m default h d = by m.there
   where
     by : (b : Bool) → pick b m.value default + 1 ≤ 32

@@ -1,8 +1,5 @@
 -- What is absent is zero, with its mark clear, and a list that is absent is empty.
 use Rattle.std.specs.Prelude.{false, pos, replicate}
-use Rattle.syntax.specs.declared.marks.MarkedNumber.{MarkedNumber}
-use Rattle.syntax.specs.declared.marks.MarkedSigned.{MarkedSigned}
-use Rattle.syntax.specs.declared.marks.MarkedFlag.{MarkedFlag}
 use Rattle.syntax.specs.declared.record.OrderCount.{OrderCount}
 use Rattle.syntax.specs.declared.record.ActiveCounts.{ActiveCounts}
 use Rattle.syntax.specs.declared.record.Modification.{Modification}
@@ -15,14 +12,16 @@ use Rattle.syntax.specs.declared.record.SliceHeader.{SliceHeader}
 use Rattle.syntax.specs.declared.record.Prefix.{Prefix}
 use Rattle.syntax.specs.Lists.{no_operations}
 use Rattle.syntax.specs.SliceHeader.{no_weight}
+use Rattle.syntax.specs.declared.marks.Marked.{Marked}
+use Rattle.std.specs.Prelude.{ℕ, ℤ, Bool}
 
-abbrev pub no_number : MarkedNumber
+abbrev pub no_number : (Marked ℕ)
 no_number = record { there = false; value = 0 }
 
-abbrev pub no_signed : MarkedSigned
+abbrev pub no_signed : (Marked ℤ)
 no_signed = record { there = false; value = pos 0 }
 
-abbrev pub no_flag : MarkedFlag
+abbrev pub no_flag : (Marked Bool)
 no_flag = record { there = false; value = false }
 
 -- ---- parts of a header

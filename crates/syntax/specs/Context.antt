@@ -2,13 +2,12 @@
 use Rattle.std.specs.Prelude.{ℕ, ◌*◌, ◌%◌, Bool, true, false, not, ◌&&◌, ◌||◌, eqb, ltb, ℤ, pos, ◌+ℤ◌, neg_ℤ}
 use Rattle.table.specs.declared.sets.Picture.{Picture}
 use Rattle.table.specs.declared.sets.Sequence.{Sequence}
-use Rattle.table.specs.declared.words.FoundPicture.{FoundPicture}
-use Rattle.table.specs.declared.words.FoundSequence.{FoundSequence}
 use Rattle.table.specs.declared.table.Table.{Table}
-use Rattle.table.specs.Tables.{picture_at, sequence_at}
+use Rattle.table.specs.Tables.{found_picture, picture_at, sequence_at}
 use Rattle.table.specs.Sets.{between_z}
 use Rattle.syntax.specs.declared.context.UnitKind.{UnitKind}
 use Rattle.syntax.specs.declared.context.Context.{Context}
+use Rattle.std.specs.Prelude.{Option, Some, None}
 
 -- ---- slice_type modulo 5 (table 7-6)
 
@@ -33,13 +32,13 @@ has_l0 k = is_p k || (is_sp k || is_b k)
 
 -- ---- the sets that a picture set id names
 
-abbrev pub is_there : FoundPicture → Bool
-is_there (FoundPicture.There p w) = true
-is_there FoundPicture.Absent = false
+abbrev pub is_there : Option (Picture × ℕ) → Bool
+is_there (found_picture p w) = true
+is_there None = false
 
-abbrev pub is_there_too : FoundSequence → Bool
-is_there_too (FoundSequence.There s) = true
-is_there_too FoundSequence.Absent = false
+abbrev pub is_there_too : Option Sequence → Bool
+is_there_too (Some s) = true
+is_there_too None = false
 
 -- what stands for a set that is not there: the header is refused before anything is read of it
 abbrev pub no_picture : Picture
@@ -73,17 +72,17 @@ no_sequence =
       pic_size_in_map_units = 0;
     }
 
-abbrev pub picture_in : FoundPicture → Picture
-picture_in (FoundPicture.There p w) = p
-picture_in FoundPicture.Absent = no_picture
+abbrev pub picture_in : Option (Picture × ℕ) → Picture
+picture_in (found_picture p w) = p
+picture_in None = no_picture
 
-abbrev pub width_in : FoundPicture → ℕ
-width_in (FoundPicture.There p w) = w
-width_in FoundPicture.Absent = 0
+abbrev pub width_in : Option (Picture × ℕ) → ℕ
+width_in (found_picture p w) = w
+width_in None = 0
 
-abbrev pub sequence_in : FoundSequence → Sequence
-sequence_in (FoundSequence.There s) = s
-sequence_in FoundSequence.Absent = no_sequence
+abbrev pub sequence_in : Option Sequence → Sequence
+sequence_in (Some s) = s
+sequence_in None = no_sequence
 
 unfoldable pub picture_for : Table → ℕ → Picture
 picture_for t id = picture_in (picture_at t id)

@@ -2,9 +2,7 @@
 use Rattle.std.specs.Prelude.{ℕ, Bool, true, false, not, eqb, ℤ, pos, negsuc}
 use Rattle.fmt.specs.Fmt.{Fmt, shaped, when}
 use Rattle.fmt.specs.Leaves.{flag}
-use Rattle.syntax.specs.declared.marks.MarkedNumber.{MarkedNumber}
-use Rattle.syntax.specs.declared.marks.MarkedSigned.{MarkedSigned}
-use Rattle.syntax.specs.declared.marks.MarkedFlag.{MarkedFlag}
+use Rattle.syntax.specs.declared.marks.Marked.{Marked}
 
 abbrev pub is_zero : ℕ → Bool
 is_zero n = eqb n 0
@@ -15,15 +13,15 @@ is_zero_z (negsuc n) = false
 
 -- there only if b, with its mark
 
-unfoldable pub number_if : Bool → Fmt ℕ → Fmt MarkedNumber
+unfoldable pub number_if : Bool → Fmt ℕ → Fmt (Marked ℕ)
 number_if b F =
     shaped (λ m. record { there = m.there; value = m.value }) (λ m. record { there = m.there; value = m.value }) (λ m. true) (when b 0 is_zero F)
 
-unfoldable pub signed_if : Bool → Fmt ℤ → Fmt MarkedSigned
+unfoldable pub signed_if : Bool → Fmt ℤ → Fmt (Marked ℤ)
 signed_if b F =
     shaped (λ m. record { there = m.there; value = m.value }) (λ m. record { there = m.there; value = m.value }) (λ m. true) (when b (pos 0) is_zero_z F)
 
-unfoldable pub flag_if : Bool → Fmt MarkedFlag
+unfoldable pub flag_if : Bool → Fmt (Marked Bool)
 flag_if b =
     shaped (λ m. record { there = m.there; value = m.value }) (λ m. record { there = m.there; value = m.value }) (λ m. true) (when b false not flag)
 

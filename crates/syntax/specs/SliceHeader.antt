@@ -14,7 +14,6 @@ use Rattle.syntax.specs.Lists.{Kind, operations_if}
 use Rattle.syntax.specs.Context.{is_b, is_sp, is_si, has_l0, is_there, is_there_too, sequence_id_for, context_for, has_chroma, order_type, has_cabac, is_weighted, qp_fits, qs_fits, is_changing}
 use Rattle.syntax.specs.declared.context.UnitKind.{UnitKind}
 use Rattle.syntax.specs.declared.context.Context.{Context}
-use Rattle.syntax.specs.declared.marks.MarkedNumber.{MarkedNumber}
 use Rattle.syntax.specs.declared.record.Frame.{Frame}
 use Rattle.syntax.specs.declared.record.Deltas.{Deltas}
 use Rattle.syntax.specs.declared.record.OrderCount.{OrderCount}
@@ -28,6 +27,7 @@ use Rattle.syntax.specs.declared.record.DecRefPicMarking.{DecRefPicMarking}
 use Rattle.syntax.specs.declared.record.Quantiser.{Quantiser}
 use Rattle.syntax.specs.declared.record.Filter.{Filter}
 use Rattle.syntax.specs.declared.record.SliceHeader.{SliceHeader}
+use Rattle.syntax.specs.declared.marks.Marked.{Marked}
 
 -- ---- first_mb_in_slice, slice_type, pic_parameter_set_id
 
@@ -97,7 +97,7 @@ active_counts k =
     number_if (override.value && is_b k) active_minus1))))
 
 -- how many references a list has: the override's count, or else the picture set's
-abbrev pub active_of : MarkedNumber → ℕ → ℕ
+abbrev pub active_of : (Marked ℕ) → ℕ → ℕ
 active_of m default = pick m.there m.value default + 1
 
 abbrev pub active_l0 : Context → ActiveCounts → ℕ

@@ -1,21 +1,7 @@
-// A field that may be absent: a mark, and zero where it is not there.
+// A field that may be absent: a mark, and zero where it is not there. No Option: the writer is given records whose value is another, and refuses them by 25.
 #[repr(C)]
 #[derive(Clone, Copy)]
-pub struct MarkedNumber {
+pub struct Marked<T> {
     pub there: bool,
-    pub value: u32,
-}
-
-#[repr(C)]
-#[derive(Clone, Copy)]
-pub struct MarkedSigned {
-    pub there: bool,
-    pub value: i32,
-}
-
-#[repr(C)]
-#[derive(Clone, Copy)]
-pub struct MarkedFlag {
-    pub there: bool,
-    pub value: bool,
+    pub value: T,
 }

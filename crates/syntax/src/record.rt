@@ -1,15 +1,15 @@
 // The slice header (7.3.3) in parts, each a paragraph of its syntax table, under the standard's names. What is absent is zero, with its mark clear.
-use crate::marks::{MarkedFlag, MarkedNumber, MarkedSigned};
+use crate::marks::Marked;
 
 // Where and how the picture is.
 #[repr(C)]
 #[derive(Clone, Copy)]
 pub struct Frame {
-    pub colour_plane_id: MarkedNumber,
+    pub colour_plane_id: Marked<u32>,
     pub frame_num: u32,
-    pub field_pic_flag: MarkedFlag,
-    pub bottom_field_flag: MarkedFlag,
-    pub idr_pic_id: MarkedNumber,
+    pub field_pic_flag: Marked<bool>,
+    pub bottom_field_flag: Marked<bool>,
+    pub idr_pic_id: Marked<u32>,
 }
 
 // delta_pic_order_cnt[0] and [1]: there where the order count type is 1, both zero where the sequence set says so.
@@ -24,19 +24,19 @@ pub struct Deltas {
 #[repr(C)]
 #[derive(Clone, Copy)]
 pub struct OrderCount {
-    pub pic_order_cnt_lsb: MarkedNumber,
-    pub delta_pic_order_cnt_bottom: MarkedSigned,
+    pub pic_order_cnt_lsb: Marked<u32>,
+    pub delta_pic_order_cnt_bottom: Marked<i32>,
     pub delta_pic_order_cnt: Deltas,
-    pub redundant_pic_cnt: MarkedNumber,
+    pub redundant_pic_cnt: Marked<u32>,
 }
 
 #[repr(C)]
 #[derive(Clone, Copy)]
 pub struct ActiveCounts {
-    pub direct_spatial_mv_pred_flag: MarkedFlag,
-    pub num_ref_idx_active_override_flag: MarkedFlag,
-    pub num_ref_idx_l0_active_minus1: MarkedNumber,
-    pub num_ref_idx_l1_active_minus1: MarkedNumber,
+    pub direct_spatial_mv_pred_flag: Marked<bool>,
+    pub num_ref_idx_active_override_flag: Marked<bool>,
+    pub num_ref_idx_l0_active_minus1: Marked<u32>,
+    pub num_ref_idx_l1_active_minus1: Marked<u32>,
 }
 
 // Codes with up to two operands each, `count` of them, the closing code left out; unused entries are zero.
@@ -53,7 +53,7 @@ pub struct Operations {
 #[repr(C)]
 #[derive(Clone, Copy)]
 pub struct Modification {
-    pub flag: MarkedFlag,
+    pub flag: Marked<bool>,
     pub operations: Operations,
 }
 
@@ -91,7 +91,7 @@ pub struct WeightList {
 pub struct PredWeightTable {
     pub there: bool,
     pub luma_log2_weight_denom: u32,
-    pub chroma_log2_weight_denom: MarkedNumber,
+    pub chroma_log2_weight_denom: Marked<u32>,
     pub l0: WeightList,
     pub l1: WeightList,
 }
@@ -100,28 +100,28 @@ pub struct PredWeightTable {
 #[repr(C)]
 #[derive(Clone, Copy)]
 pub struct DecRefPicMarking {
-    pub no_output_of_prior_pics_flag: MarkedFlag,
-    pub long_term_reference_flag: MarkedFlag,
-    pub adaptive_ref_pic_marking_mode_flag: MarkedFlag,
+    pub no_output_of_prior_pics_flag: Marked<bool>,
+    pub long_term_reference_flag: Marked<bool>,
+    pub adaptive_ref_pic_marking_mode_flag: Marked<bool>,
     pub operations: Operations,
 }
 
 #[repr(C)]
 #[derive(Clone, Copy)]
 pub struct Quantiser {
-    pub cabac_init_idc: MarkedNumber,
+    pub cabac_init_idc: Marked<u32>,
     pub slice_qp_delta: i32,
-    pub sp_for_switch_flag: MarkedFlag,
-    pub slice_qs_delta: MarkedSigned,
+    pub sp_for_switch_flag: Marked<bool>,
+    pub slice_qs_delta: Marked<i32>,
 }
 
 #[repr(C)]
 #[derive(Clone, Copy)]
 pub struct Filter {
-    pub disable_deblocking_filter_idc: MarkedNumber,
-    pub slice_alpha_c0_offset_div2: MarkedSigned,
-    pub slice_beta_offset_div2: MarkedSigned,
-    pub slice_group_change_cycle: MarkedNumber,
+    pub disable_deblocking_filter_idc: Marked<u32>,
+    pub slice_alpha_c0_offset_div2: Marked<i32>,
+    pub slice_beta_offset_div2: Marked<i32>,
+    pub slice_group_change_cycle: Marked<u32>,
 }
 
 #[repr(C)]
@@ -145,8 +145,8 @@ pub struct SliceHeader {
 #[repr(C)]
 #[derive(Clone, Copy)]
 pub struct Prefix {
-    pub store_ref_base_pic_flag: MarkedFlag,
-    pub adaptive_ref_base_pic_marking_mode_flag: MarkedFlag,
+    pub store_ref_base_pic_flag: Marked<bool>,
+    pub adaptive_ref_base_pic_marking_mode_flag: Marked<bool>,
     pub base_marking: Operations,
-    pub additional_prefix_nal_unit_extension_flag: MarkedFlag,
+    pub additional_prefix_nal_unit_extension_flag: Marked<bool>,
 }

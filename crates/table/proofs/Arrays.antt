@@ -11,12 +11,12 @@ use lib.Dec.{leb}
 use lib.ListN.{length, get_or, take, drop, set, replicate, get_or-append}
 use lib.Seq.{sets, sets-eq, length-sets, drop_at, length-take-le, get_or-drop, get_or-set_other}
 use Rattle.bits.specs.Refusals.{pick}
-use Rattle.table.specs.declared.words.Changed.{Changed}
 use Rattle.table.specs.Sets.{all}
 use Rattle.table.specs.Tables.{Put, put_words}
 use Rattle.table.proofs.Tests.{is-it}
 use Rattle.table.proofs.Looking.{Local, look, entry_by}
 use Rattle.table.proofs.Storing.{refused, put-done}
+use Rattle.std.specs.Prelude.{Ok}
 
 -- ---- a run of stores, and the places beside it
 
@@ -131,7 +131,7 @@ module _ {S F : Type 0} (K : Kind S F) where
   pub put_other : (t : List ℕ) (id j : ℕ) (s : S) → (j ≡ id → ⊥) → look_in (put_in t id s).left j ≡ look_in t j
   put_other t id j s h = look-same _ t j (put-words-other t id j s h)
 
-  pub put-answer : (t : List ℕ) (id : ℕ) (s : S) → id ≤ K.last → K.fits s ≡ true → (put_in t id s).answer ≡ Changed.Done
+  pub put-answer : (t : List ℕ) (id : ℕ) (s : S) → id ≤ K.last → K.fits s ≡ true → (put_in t id s).answer ≡ Ok tt
   put-answer t id s k g = ap (λ (p : Put). p.answer) (put-done K.last id (K.fits s) t (id * K.width) (K.words s) k g)
 
   -- a put that is refused changes nothing

@@ -14,11 +14,8 @@ use Rattle.bits.proofs.Widths.{width-least}
 use Rattle.table.specs.declared.sets.Picture.{Picture}
 use Rattle.table.specs.declared.sets.Sequence.{Sequence}
 use Rattle.table.specs.declared.table.Table.{Table}
-use Rattle.table.specs.declared.words.Changed.{Changed}
-use Rattle.table.specs.declared.words.FoundPicture.{FoundPicture}
-use Rattle.table.specs.declared.words.FoundSequence.{FoundSequence}
 use Rattle.table.specs.Sets.{between, all, sequence_fits, picture_fits}
-use Rattle.table.specs.Tables.{Put, cycle_width, width_in, sequence_marks, sequence_words, sequence_of, sequence_tests, sequence_entry, sequence_in, sequence_put, picture_marks, picture_words, picture_of, picture_tests, picture_entry, picture_in, picture_put, empty_table, sequence_at, picture_at, put_picture}
+use Rattle.table.specs.Tables.{found_picture, Put, cycle_width, width_in, sequence_marks, sequence_words, sequence_of, sequence_tests, sequence_entry, sequence_in, sequence_put, picture_marks, picture_words, picture_of, picture_tests, picture_entry, picture_in, picture_put, empty_table, sequence_at, picture_at, put_picture}
 use Rattle.table.specs.Made.{BlankSequences, BlankPictures}
 use Rattle.table.proofs.Tests.{both, each, next, last, joined}
 use Rattle.table.proofs.Signs.{raised-back}
@@ -26,6 +23,7 @@ use Rattle.table.proofs.Ranges.{SequenceRanges, sequence-ranges, PictureRanges, 
 use Rattle.table.proofs.Looking.{same-sequence, same-picture}
 use Rattle.table.proofs.Storing.{refused}
 use Rattle.table.proofs.Arrays.{Kind, put_in, look-same, put-length, put-there, put_other, put_refused, put-answer, put-blank, found_within, empty-absent, empty-blank}
+use Rattle.std.specs.Prelude.{Ok, Option, Some, None}
 
 -- ---- the two kinds
 
@@ -56,20 +54,20 @@ sequence-passes s g =
     ∙ ap sequence_fits (sequence-back s)
     ∙ g
 
-one-sequence : (r s : Sequence) → FoundSequence.There r ≡ FoundSequence.There s → r ≡ s
+one-sequence : (r s : Sequence) → Some r ≡ Some s → r ≡ s
 one-sequence r s h = cc
 
-no-sequence : (s : Sequence) → FoundSequence.Absent ≡ FoundSequence.There s → ⊥
+no-sequence : (s : Sequence) → None ≡ Some s → ⊥
 no-sequence s h = let z : ◌≡◌ {A = ℕ} 0 1 = cc in omega arith
 
-abbrev sequences : Kind Sequence FoundSequence
+abbrev sequences : Kind Sequence (Option Sequence)
 unfolding sequence_entry sequence_words
 sequences =
     record {
       width = 7;
       last = 31;
-      there = FoundSequence.There;
-      absent = FoundSequence.Absent;
+      there = Some;
+      absent = None;
       tests = sequence_tests;
       of = sequence_of;
       words = sequence_words;
@@ -118,23 +116,31 @@ wide_back : (v : Wide) → wide_fits v ≡ true → (picture_of (picture_words v
 unfolding picture_words
 wide_back v g = let e = picture-back v.0 v.1 (both (picture_fits v.0) _ g).0 in λ i. (e i, v.1)
 
-one-picture : (v u : Wide) → FoundPicture.There v.0 v.1 ≡ FoundPicture.There u.0 u.1 → v ≡ u
+one-picture : (v u : Wide) → (found_picture v.0 v.1) ≡ found_picture u.0 u.1 → v ≡ u
 one-picture v u h =
     let e : v.0 ≡ u.0 = cc in
     let f : v.1 ≡ u.1 = cc in
     λ i. (e i, f i)
 
-no-picture : (v : Wide) → FoundPicture.Absent ≡ FoundPicture.There v.0 v.1 → ⊥
+-- what is found alike is alike
+module _ {p q : Picture} {w v : ℕ} (e : found_picture p w ≡ found_picture q v) where
+  pub one-found : p ≡ q
+  one-found = ap (λ (x : Wide). x.0) (one-picture (p, w) (q, v) e)
+
+  pub one-width : w ≡ v
+  one-width = ap (λ (x : Wide). x.1) (one-picture (p, w) (q, v) e)
+
+no-picture : (v : Wide) → None ≡ found_picture v.0 v.1 → ⊥
 no-picture v h = let z : ◌≡◌ {A = ℕ} 0 1 = cc in omega arith
 
-abbrev pictures : Kind Wide FoundPicture
+abbrev pictures : Kind Wide (Option (Picture × ℕ))
 unfolding picture_entry picture_words
 pictures =
     record {
       width = 9;
       last = 255;
-      there = λ v. FoundPicture.There v.0 v.1;
-      absent = FoundPicture.Absent;
+      there = λ v. (found_picture v.0 v.1);
+      absent = None;
       tests = picture_tests;
       of = λ w. (picture_of w, width_in w);
       words = λ v. picture_words v.0 v.1;
@@ -152,7 +158,7 @@ pictures =
 
 module _ (t : List ℕ) (id : ℕ) (s : Sequence) where
   -- the named entry holds the new set
-  pub put-sequence-there : length t ≡ 224 → id ≤ 31 → sequence_fits s ≡ true → sequence_in (sequence_put t id s).left id ≡ FoundSequence.There s
+  pub put-sequence-there : length t ≡ 224 → id ≤ 31 → sequence_fits s ≡ true → sequence_in (sequence_put t id s).left id ≡ Some s
   unfolding sequence_in sequence_put sequence_entry sequence_words
   put-sequence-there = put-there sequences t id s
 
@@ -165,7 +171,7 @@ module _ (t : List ℕ) (id : ℕ) (s : Sequence) where
   unfolding sequence_put sequence_entry sequence_words
   put-sequence-length = put-length sequences t id s
 
-  pub put-sequence-done : id ≤ 31 → sequence_fits s ≡ true → (sequence_put t id s).answer ≡ Changed.Done
+  pub put-sequence-done : id ≤ 31 → sequence_fits s ≡ true → (sequence_put t id s).answer ≡ Ok tt
   unfolding sequence_put sequence_entry sequence_words
   put-sequence-done = put-answer sequences t id s
 
@@ -179,11 +185,11 @@ module _ (t : List ℕ) (id : ℕ) (s : Sequence) where
   put-sequence-blank = put-blank sequences t id s
 
   -- what is found is within the ranges
-  pub found-sequence : sequence_in t id ≡ FoundSequence.There s → (id ≤ 31) × (sequence_fits s ≡ true)
+  pub found-sequence : sequence_in t id ≡ Some s → (id ≤ 31) × (sequence_fits s ≡ true)
   unfolding sequence_in sequence_entry sequence_words
   found-sequence = found_within sequences t id s
 
-  pub found-sequence-ranges : sequence_in t id ≡ FoundSequence.There s → SequenceRanges s
+  pub found-sequence-ranges : sequence_in t id ≡ Some s → SequenceRanges s
   found-sequence-ranges h = sequence-ranges s (found-sequence h).1
 
 -- ---- picture sets
@@ -197,9 +203,9 @@ width-most size (suc r) h = width-least size (suc r) 25 (omega arith) (omega ari
 pub cycle-most : (s : List ℕ) (id rate : ℕ) → cycle_width (sequence_in s id) rate ≤ 25
 cycle-most s id rate = by (sequence_in s id) refl
   where
-    by : (f : FoundSequence) → sequence_in s id ≡ f → cycle_width f rate ≤ 25
-    by (FoundSequence.There q) e = width-most _ rate (found-sequence-ranges s id q e).units-most
-    by FoundSequence.Absent e = omega arith
+    by : (f : Option Sequence) → sequence_in s id ≡ f → cycle_width f rate ≤ 25
+    by (Some q) e = width-most _ rate (found-sequence-ranges s id q e).units-most
+    by None e = omega arith
 
 module _ (s t : List ℕ) (id : ℕ) (p : Picture) where
   -- the width that is put
@@ -215,7 +221,7 @@ module _ (s t : List ℕ) (id : ℕ) (p : Picture) where
   put-wide = rw (fits-wide (picture_fits p))
 
   -- the named entry holds the new set
-  pub put-picture-there : length t ≡ 2304 → id ≤ 255 → picture_fits p ≡ true → picture_in (picture_put s t id p).left id ≡ FoundPicture.There p put_width
+  pub put-picture-there : length t ≡ 2304 → id ≤ 255 → picture_fits p ≡ true → picture_in (picture_put s t id p).left id ≡ found_picture p put_width
   unfolding picture_in picture_entry picture_words
   put-picture-there z h g =
       ap (λ (x : Put). picture_in x.left id) put-wide ∙ put-there pictures t id (p, put_width) z h (fits-wide (picture_fits p) ∙ g)
@@ -229,7 +235,7 @@ module _ (s t : List ℕ) (id : ℕ) (p : Picture) where
   unfolding picture_entry picture_words
   put-picture-length = ap (λ (x : Put). length x.left) put-wide ∙ put-length pictures t id (p, put_width)
 
-  pub put-picture-done : id ≤ 255 → picture_fits p ≡ true → (picture_put s t id p).answer ≡ Changed.Done
+  pub put-picture-done : id ≤ 255 → picture_fits p ≡ true → (picture_put s t id p).answer ≡ Ok tt
   unfolding picture_entry picture_words
   put-picture-done h g = ap (λ (x : Put). x.answer) put-wide ∙ put-answer pictures t id (p, put_width) h (fits-wide (picture_fits p) ∙ g)
 
@@ -249,14 +255,14 @@ same-words = look-same pictures
 
 module _ (t : List ℕ) (id : ℕ) (p : Picture) (w : ℕ) where
   -- what is found is within the ranges, and its width is at most 25
-  pub found-picture : picture_in t id ≡ FoundPicture.There p w → (id ≤ 255) × ((picture_fits p ≡ true) × (w ≤ 25))
+  pub found-picture : picture_in t id ≡ found_picture p w → (id ≤ 255) × ((picture_fits p ≡ true) × (w ≤ 25))
   unfolding picture_in picture_entry picture_words
   found-picture h =
       let f = found_within pictures t id (p, w) h in
       let g = both (picture_fits p) (leb w 25) f.1 in
       (f.0, (g.0, leb-true w 25 g.1))
 
-  pub found-picture-ranges : picture_in t id ≡ FoundPicture.There p w → PictureRanges p
+  pub found-picture-ranges : picture_in t id ≡ found_picture p w → PictureRanges p
   found-picture-ranges h = picture-ranges p (found-picture h).1.0
 
 -- ---- the table
@@ -271,11 +277,11 @@ pub put-picture-sequences : (t : Table) (id j : ℕ) (p : Picture) → sequence_
 put-picture-sequences t id j p = refl
 
 -- a new table holds nothing
-pub empty-sequence : (id : ℕ) → sequence_at empty_table id ≡ FoundSequence.Absent
+pub empty-sequence : (id : ℕ) → sequence_at empty_table id ≡ None
 unfolding sequence_in sequence_entry sequence_words
 empty-sequence = empty-absent sequences 224
 
-pub empty-picture : (id : ℕ) → picture_at empty_table id ≡ FoundPicture.Absent
+pub empty-picture : (id : ℕ) → picture_at empty_table id ≡ None
 unfolding picture_in picture_entry picture_words
 empty-picture = empty-absent pictures 2304
 

@@ -12,12 +12,11 @@ use lib.ListN.{get_or, drop}
 use lib.Seq.{get_or-drop}
 use Rattle.bits.specs.Refusals.{pick}
 use Rattle.table.specs.declared.sets.Picture.{Picture}
-use Rattle.table.specs.declared.words.FoundSequence.{FoundSequence}
-use Rattle.table.specs.declared.words.FoundPicture.{FoundPicture}
 use Rattle.table.specs.Sets.{between, all, picture_fits}
-use Rattle.table.specs.Tables.{flag_in, sequence_of, sequence_tests, sequence_entry, sequence_in, width_in, picture_of, picture_tests, picture_entry, picture_in}
+use Rattle.table.specs.Tables.{found_picture, flag_in, sequence_of, sequence_tests, sequence_entry, sequence_in, width_in, picture_of, picture_tests, picture_entry, picture_in}
 use Rattle.table.proofs.Tests.{both, one-fails, next, but_last}
 use Rattle.table.proofs.Signs.{lowered-high}
+use Rattle.std.specs.Prelude.{Some, None}
 
 -- ---- reading word by word
 
@@ -75,18 +74,18 @@ same-sequence w v h =
     rw
     (h 0 (lit< tt), h 1 (lit< tt), h 2 (lit< tt), h 3 (lit< tt), h 4 (lit< tt), h 5 (lit< tt), h 6 (lit< tt))
 
-pub sequence-past : (t : List ℕ) (id : ℕ) → 31 < id → sequence_in t id ≡ FoundSequence.Absent
+pub sequence-past : (t : List ℕ) (id : ℕ) → 31 < id → sequence_in t id ≡ None
 unfolding sequence_in
-sequence-past = look-past 7 31 sequence_entry FoundSequence.Absent
+sequence-past = look-past 7 31 sequence_entry None
 
 module _ (t : List ℕ) (id : ℕ) (h : id ≤ 31) where
-  pub sequence-none : all (sequence_tests (entry_at t (id * 7) 6)) ≡ false → sequence_in t id ≡ FoundSequence.Absent
+  pub sequence-none : all (sequence_tests (entry_at t (id * 7) 6)) ≡ false → sequence_in t id ≡ None
   unfolding sequence_in sequence_entry
-  sequence-none = look_none 6 31 sequence_tests (λ w. FoundSequence.There (sequence_of w)) FoundSequence.Absent same-sequence t id h
+  sequence-none = look_none 6 31 sequence_tests (λ w. Some (sequence_of w)) None same-sequence t id h
 
-  pub sequence-there : all (sequence_tests (entry_at t (id * 7) 6)) ≡ true → sequence_in t id ≡ FoundSequence.There (sequence_of (entry_at t (id * 7) 6))
+  pub sequence-there : all (sequence_tests (entry_at t (id * 7) 6)) ≡ true → sequence_in t id ≡ Some (sequence_of (entry_at t (id * 7) 6))
   unfolding sequence_in sequence_entry
-  sequence-there = look-there 6 31 sequence_tests (λ w. FoundSequence.There (sequence_of w)) FoundSequence.Absent same-sequence t id h
+  sequence-there = look-there 6 31 sequence_tests (λ w. Some (sequence_of w)) None same-sequence t id h
 
 -- ---- picture sets
 
@@ -101,18 +100,18 @@ pub same-picture : Local 9 picture_entry
 unfolding picture_entry
 same-picture w v h = rw (h 0 (lit< tt), same_set w v (λ i l. h i (omega arith)), h 8 (lit< tt))
 
-pub picture-past : (t : List ℕ) (id : ℕ) → 255 < id → picture_in t id ≡ FoundPicture.Absent
+pub picture-past : (t : List ℕ) (id : ℕ) → 255 < id → picture_in t id ≡ None
 unfolding picture_in
-picture-past = look-past 9 255 picture_entry FoundPicture.Absent
+picture-past = look-past 9 255 picture_entry None
 
 module _ (t : List ℕ) (id : ℕ) (h : id ≤ 255) where
-  pub picture-none : all (picture_tests (entry_at t (id * 9) 8)) ≡ false → picture_in t id ≡ FoundPicture.Absent
+  pub picture-none : all (picture_tests (entry_at t (id * 9) 8)) ≡ false → picture_in t id ≡ None
   unfolding picture_in picture_entry
-  picture-none = look_none 8 255 picture_tests (λ w. FoundPicture.There (picture_of w) (width_in w)) FoundPicture.Absent same-picture t id h
+  picture-none = look_none 8 255 picture_tests (λ w. (found_picture (picture_of w) (width_in w))) None same-picture t id h
 
-  pub picture-there : all (picture_tests (entry_at t (id * 9) 8)) ≡ true → picture_in t id ≡ FoundPicture.There (picture_of (entry_at t (id * 9) 8)) (width_in (entry_at t (id * 9) 8))
+  pub picture-there : all (picture_tests (entry_at t (id * 9) 8)) ≡ true → picture_in t id ≡ (found_picture (picture_of (entry_at t (id * 9) 8)) (width_in (entry_at t (id * 9) 8)))
   unfolding picture_in picture_entry
-  picture-there = look-there 8 255 picture_tests (λ w. FoundPicture.There (picture_of w) (width_in w)) FoundPicture.Absent same-picture t id h
+  picture-there = look-there 8 255 picture_tests (λ w. (found_picture (picture_of w) (width_in w))) None same-picture t id h
 
 -- the words' set, with the signed fields as they were made
 abbrev pub made_picture : List ℕ → ℤ → ℤ → Picture

@@ -12,10 +12,9 @@ use lib.Seq.{sets}
 use Rattle.bits.specs.Refusals.{refusal}
 use Rattle.table.specs.declared.sets.Picture.{Picture}
 use Rattle.table.specs.declared.sets.Sequence.{Sequence}
-use Rattle.table.specs.declared.words.Changed.{Changed}
-use Rattle.table.specs.declared.words.FoundSequence.{FoundSequence}
 use Rattle.table.specs.Sets.{sequence_fits, picture_fits}
 use Rattle.table.specs.Tables.{Put, put_words, table_field, sequence_marks, sequence_words, sequence_put, renewed, widths_after, cycle_width, sequence_in, picture_marks, picture_words, picture_put}
+use Rattle.std.specs.Prelude.{Ok, Err, Option}
 
 abbrev store_from : List ℕ → ℕ → ℕ → List ℕ → List ℕ
 store_from t k j [] = t
@@ -35,7 +34,7 @@ stored t k a w = ap (λ (i : ℕ). sets (set t k a) i w) (omega arith) ∙ store
 -- ---- what a put of the words w gives, for any kind of entry
 
 abbrev pub refused : List ℕ → Put
-refused t = record { answer = Changed.Refused (refusal table_field (pos 0)); left = t }
+refused t = record { answer = Err (refusal table_field (pos 0)); left = t }
 
 -- what is given, part by part
 pub parts : {p q : Put} → p ≡ q → (q.answer ≡ p.answer) × (q.left ≡ p.left)
@@ -48,13 +47,13 @@ module _ (last id : ℕ) (good : Bool) (t : List ℕ) (at : ℕ) (w : List ℕ) 
   pub put-unfit : good ≡ false → put_words (leb id last && good) t at w ≡ refused t
   put-unfit h = rw (h, and-false (leb id last))
 
-  pub put-done : id ≤ last → good ≡ true → put_words (leb id last && good) t at w ≡ record { answer = Changed.Done; left = sets t at w }
+  pub put-done : id ≤ last → good ≡ true → put_words (leb id last && good) t at w ≡ record { answer = Ok tt; left = sets t at w }
   put-done h g = rw (le-leb id last h, g)
 
   -- the words that the code stores, one by one
   pub put-stored : id ≤ last → good ≡ true → (a : ℕ) (v : List ℕ) → a ∷ v ≡ w
-      → put_words (leb id last && good) t at w ≡ record { answer = Changed.Done; left = store_at t at a v }
-  put-stored h g a v e = put-done h g ∙ ap (λ (l : List ℕ). record { answer = Changed.Done; left = l }) (ap (λ (u : List ℕ). sets t at u) (sym e) ∙ stored t at a v)
+      → put_words (leb id last && good) t at w ≡ record { answer = Ok tt; left = store_at t at a v }
+  put-stored h g a v e = put-done h g ∙ ap (λ (l : List ℕ). record { answer = Ok tt; left = l }) (ap (λ (u : List ℕ). sets t at u) (sym e) ∙ stored t at a v)
 
 -- ---- sequence sets
 
@@ -68,7 +67,7 @@ module _ (t : List ℕ) (id : ℕ) (s : Sequence) where
   sequence-put-unfit = put-unfit 31 id (sequence_fits s) t (id * 7) (sequence_words s)
 
   pub sequence-put-stored : id ≤ 31 → sequence_fits s ≡ true → (m : ℕ) (v : List ℕ) → m ∷ v ≡ sequence_words s
-      → sequence_put t id s ≡ record { answer = Changed.Done; left = store_at t (id * 7) m v }
+      → sequence_put t id s ≡ record { answer = Ok tt; left = store_at t (id * 7) m v }
   unfolding sequence_put
   sequence-put-stored h g = put-stored 31 id (sequence_fits s) t (id * 7) (sequence_words s) h g
 
@@ -113,12 +112,12 @@ module _ (s t : List ℕ) (id : ℕ) (p : Picture) where
   picture-put-unfit = put-unfit 255 id (picture_fits p) t (id * 9) words
 
   pub picture-put-stored : id ≤ 255 → picture_fits p ≡ true → (m : ℕ) (v : List ℕ) → m ∷ v ≡ words
-      → picture_put s t id p ≡ record { answer = Changed.Done; left = store_at t (id * 9) m v }
+      → picture_put s t id p ≡ record { answer = Ok tt; left = store_at t (id * 9) m v }
   unfolding picture_put
   picture-put-stored h g = put-stored 255 id (picture_fits p) t (id * 9) words h g
 
 -- the words, with each signed field's and the width as a call gives it
-pub picture-words : (s : List ℕ) (p : Picture) {m qp qs width : ℕ} {found : FoundSequence}
+pub picture-words : (s : List ℕ) (p : Picture) {m qp qs width : ℕ} {found : Option Sequence}
     → m ≡ picture_marks p → qp ≡ nat_abs (p.pic_init_qp_minus26 +ℤ pos 62) → qs ≡ nat_abs (p.pic_init_qs_minus26 +ℤ pos 26)
     → width ≡ cycle_width found p.slice_group_change_rate → found ≡ sequence_in s p.seq_parameter_set_id
     → m ∷ p.seq_parameter_set_id ∷ p.num_ref_idx_l0_default_active_minus1 ∷ p.num_ref_idx_l1_default_active_minus1

@@ -11,14 +11,13 @@ use Rattle.bits.specs.Width.{change_cycle_width}
 use Rattle.table.specs.declared.sets.Picture.{Picture}
 use Rattle.table.specs.declared.sets.Sequence.{Sequence}
 use Rattle.table.specs.declared.table.Table.{Table}
-use Rattle.table.specs.declared.words.FoundPicture.{FoundPicture}
-use Rattle.table.specs.declared.words.FoundSequence.{FoundSequence}
 use Rattle.table.specs.Sets.{sequence_fits, picture_fits}
-use Rattle.table.specs.Tables.{Put, cycle_width, picture_in, sequence_at, picture_at, put_sequence, put_picture, empty_table}
+use Rattle.table.specs.Tables.{found_picture, Put, cycle_width, picture_in, sequence_at, picture_at, put_sequence, put_picture, empty_table}
 use Rattle.table.specs.Made.{TrueWidths, BlankSequences, BlankPictures, Change, sequence_set, picture_set, changed, made_from, made}
 use Rattle.table.proofs.Tests.{both, is-it}
-use Rattle.table.proofs.Entries.{Sized, put-sequence-there, put-sequence-other, put-sequence-blank, put-sequence-refused, put-picture-there, put-picture-other, put-picture-length, put-picture-blank, put-picture-refused, empty-picture, empty-sized, empty-blank-sequences, empty-blank-pictures}
+use Rattle.table.proofs.Entries.{one-found, one-width, Sized, put-sequence-there, put-sequence-other, put-sequence-blank, put-sequence-refused, put-picture-there, put-picture-other, put-picture-length, put-picture-blank, put-picture-refused, empty-picture, empty-sized, empty-blank-sequences, empty-blank-pictures}
 use Rattle.table.proofs.Renewed.{renewed_set, put-sequence-pictures, put-sequence-still, put-sequence-sized, put-sequence-picture-blank}
+use Rattle.std.specs.Prelude.{Option, Some, None}
 
 -- what every put keeps
 pub record Sound (t : Table) : Type 0 where
@@ -31,7 +30,7 @@ pub empty-sound : Sound empty_table
 empty-sound =
     record {
       sized = empty-sized;
-      widths = λ id p w e. absurd (let h : FoundPicture.Absent ≡ FoundPicture.There p w = sym (empty-picture id) ∙ e in let z : ◌≡◌ {A = ℕ} 0 1 = (cc h) in omega arith);
+      widths = λ id p w e. absurd (let h : None ≡ found_picture p w = sym (empty-picture id) ∙ e in let z : ◌≡◌ {A = ℕ} 0 1 = (cc h) in omega arith);
       blank-sequences = empty-blank-sequences;
       blank-pictures = empty-blank-pictures;
     }
@@ -43,18 +42,18 @@ module _ (t : Table) (v : Sound t) (id : ℕ) (s : Sequence) where
   next = (put_sequence t id s).table
 
   -- a set that names it has the new width, and each other one the width that it had, by the same sequence set
-  found-true : leb id 31 && sequence_fits s ≡ true → (f : FoundPicture) (j : ℕ) → picture_at t j ≡ f → (p : Picture) (w : ℕ)
-      → renewed_set id s.pic_size_in_map_units f ≡ FoundPicture.There p w → w ≡ cycle_width (sequence_at next p.seq_parameter_set_id) p.slice_group_change_rate
-  found-true g (FoundPicture.There q x) j e p w h = by (eqb q.seq_parameter_set_id id) refl
+  found-true : leb id 31 && sequence_fits s ≡ true → (f : Option (Picture × ℕ)) (j : ℕ) → picture_at t j ≡ f → (p : Picture) (w : ℕ)
+      → renewed_set id s.pic_size_in_map_units f ≡ found_picture p w → w ≡ cycle_width (sequence_at next p.seq_parameter_set_id) p.slice_group_change_rate
+  found-true g (found_picture q x) j e p w h = by (eqb q.seq_parameter_set_id id) refl
     where
-      there : sequence_at next id ≡ FoundSequence.There s
+      there : sequence_at next id ≡ Some s
       there = let k = both (leb id 31) (sequence_fits s) g in put-sequence-there t.sequences id s v.sized.sequences-long (leb-true id 31 k.0) k.1
 
       is : q ≡ p
-      is = cc h
+      is = one-found h
 
       width : pick (eqb q.seq_parameter_set_id id) (change_cycle_width s.pic_size_in_map_units q.slice_group_change_rate) x ≡ w
-      width = cc h
+      width = one-width h
 
       true_of : (y : ℕ) → pick (eqb q.seq_parameter_set_id id) (change_cycle_width s.pic_size_in_map_units q.slice_group_change_rate) x ≡ y
           → y ≡ cycle_width (sequence_at next q.seq_parameter_set_id) q.slice_group_change_rate
@@ -64,11 +63,11 @@ module _ (t : Table) (v : Sound t) (id : ℕ) (s : Sequence) where
       by : (b : Bool) → eqb q.seq_parameter_set_id id ≡ b → w ≡ cycle_width (sequence_at next p.seq_parameter_set_id) p.slice_group_change_rate
       by true n =
           true_of (change_cycle_width s.pic_size_in_map_units q.slice_group_change_rate) (rw n)
-          (sym (ap (λ (z : FoundSequence). cycle_width z q.slice_group_change_rate) (ap (sequence_at next) (eqb-true _ id n) ∙ there)))
+          (sym (ap (λ (z : Option Sequence). cycle_width z q.slice_group_change_rate) (ap (sequence_at next) (eqb-true _ id n) ∙ there)))
       by false n =
           true_of x (rw n)
-          (v.widths j q x e ∙ sym (ap (λ (z : FoundSequence). cycle_width z q.slice_group_change_rate) (put-sequence-other t.sequences id s q.seq_parameter_set_id (eqb-false _ id n))))
-  found-true g FoundPicture.Absent j e p w h = absurd (let z : ◌≡◌ {A = ℕ} 0 1 = (cc h) in omega arith)
+          (v.widths j q x e ∙ sym (ap (λ (z : Option Sequence). cycle_width z q.slice_group_change_rate) (put-sequence-other t.sequences id s q.seq_parameter_set_id (eqb-false _ id n))))
+  found-true g None j e p w h = absurd (let z : ◌≡◌ {A = ℕ} 0 1 = (cc h) in omega arith)
 
   sequence-widths : TrueWidths next
   sequence-widths = by (leb id 31 && sequence_fits s) refl
@@ -97,13 +96,13 @@ module _ (t : Table) (v : Sound t) (id : ℕ) (p : Picture) where
   picture-widths : TrueWidths then
   picture-widths = by (leb id 255 && picture_fits p) refl
     where
-      one : leb id 255 && picture_fits p ≡ true → (j : ℕ) → Dec (j ≡ id) → (q : Picture) (w : ℕ) → picture_at then j ≡ FoundPicture.There q w
+      one : leb id 255 && picture_fits p ≡ true → (j : ℕ) → Dec (j ≡ id) → (q : Picture) (w : ℕ) → picture_at then j ≡ found_picture q w
           → w ≡ cycle_width (sequence_at t q.seq_parameter_set_id) q.slice_group_change_rate
       one g j (yes n) q w e =
           let k = both (leb id 255) (picture_fits p) g in
           let h = sym (put-picture-there t.sequences t.pictures id p v.sized.pictures-long (leb-true id 255 k.0) k.1) ∙ ap (picture_at then) (sym n) ∙ e in
-          let is : p ≡ q = cc h in
-          let width : cycle_width (sequence_at t p.seq_parameter_set_id) p.slice_group_change_rate ≡ w = cc h in
+          let is : p ≡ q = one-found h in
+          let width : cycle_width (sequence_at t p.seq_parameter_set_id) p.slice_group_change_rate ≡ w = one-width h in
           sym width ∙ ap (λ (z : Picture). cycle_width (sequence_at t z.seq_parameter_set_id) z.slice_group_change_rate) is
       one g j (no n) q w e = v.widths j q w (sym (put-picture-other t.sequences t.pictures id p j n) ∙ e)
 

@@ -3,9 +3,8 @@ use Rattle.std.specs.Prelude.{◌≡◌, List, [], ◌∷◌, ℕ, ◌+◌, ◌*
 use Rattle.table.specs.declared.sets.Picture.{Picture}
 use Rattle.table.specs.declared.sets.Sequence.{Sequence}
 use Rattle.table.specs.declared.table.Table.{Table}
-use Rattle.table.specs.declared.words.FoundPicture.{FoundPicture}
-use Rattle.table.specs.declared.words.FoundSequence.{FoundSequence}
-use Rattle.table.specs.Tables.{cycle_width, sequence_in, picture_in, sequence_at, picture_at, put_sequence, put_picture, empty_table}
+use Rattle.table.specs.Tables.{found_picture, cycle_width, sequence_in, picture_in, sequence_at, picture_at, put_sequence, put_picture, empty_table}
+use Rattle.std.specs.Prelude.{None}
 
 -- what is put, under which id
 pub data Change : Type 0 where
@@ -27,12 +26,12 @@ made = made_from empty_table
 -- each picture set's width is the one that its change rate and its sequence set give
 abbrev pub TrueWidths : Table → Type 0
 TrueWidths t =
-    (id : ℕ) (p : Picture) (w : ℕ) → picture_at t id ≡ FoundPicture.There p w
+    (id : ℕ) (p : Picture) (w : ℕ) → picture_at t id ≡ found_picture p w
     → w ≡ cycle_width (sequence_at t p.seq_parameter_set_id) p.slice_group_change_rate
 
 -- entries that hold no set are all zero
 abbrev pub BlankSequences : List ℕ → Type 0
-BlankSequences t = (id : ℕ) → id ≤ 31 → sequence_in t id ≡ FoundSequence.Absent → (i : ℕ) → i < 7 → get_or t (id * 7 + i) 0 ≡ 0
+BlankSequences t = (id : ℕ) → id ≤ 31 → sequence_in t id ≡ None → (i : ℕ) → i < 7 → get_or t (id * 7 + i) 0 ≡ 0
 
 abbrev pub BlankPictures : List ℕ → Type 0
-BlankPictures t = (id : ℕ) → id ≤ 255 → picture_in t id ≡ FoundPicture.Absent → (i : ℕ) → i < 9 → get_or t (id * 9 + i) 0 ≡ 0
+BlankPictures t = (id : ℕ) → id ≤ 255 → picture_in t id ≡ None → (i : ℕ) → i < 9 → get_or t (id * 9 + i) 0 ≡ 0

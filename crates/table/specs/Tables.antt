@@ -6,12 +6,11 @@ use Rattle.bits.specs.Bits.{number_of}
 use Rattle.bits.specs.Width.{change_cycle_width}
 use Rattle.table.specs.declared.sets.Sequence.{Sequence}
 use Rattle.table.specs.declared.sets.Picture.{Picture}
-use Rattle.table.specs.declared.words.FoundSequence.{FoundSequence}
-use Rattle.table.specs.declared.words.FoundPicture.{FoundPicture}
-use Rattle.table.specs.declared.words.Changed.{Changed}
 use Rattle.table.specs.declared.table.Table.{Table}
 use Rattle.table.specs.declared.table.WithTable.{WithTable}
 use Rattle.table.specs.Sets.{between, all, sequence_fits, picture_fits}
+use Rattle.std.specs.Prelude.{⊤, Result, Ok, Err, Option, Some, None}
+use Rattle.bits.specs.declared.refusals.Refusal.{Refusal}
 
 -- refusal 24: a table field out of range
 abbrev pub table_field : ℕ
@@ -97,46 +96,50 @@ picture_of w =
 abbrev pub sequence_tests : List ℕ → List Bool
 sequence_tests w = between 8 15 (get_or w 0 0) ∷ sequence_fits (sequence_of w) ∷ []
 
-unfoldable pub sequence_entry : List ℕ → FoundSequence
-sequence_entry w = pick (all (sequence_tests w)) (FoundSequence.There (sequence_of w)) FoundSequence.Absent
+unfoldable pub sequence_entry : List ℕ → Option Sequence
+sequence_entry w = pick (all (sequence_tests w)) (Some (sequence_of w)) None
 
 abbrev pub picture_tests : List ℕ → List Bool
 picture_tests w = between 32 63 (get_or w 0 0) ∷ picture_fits (picture_of w) ∷ leb (width_in w) 25 ∷ []
 
-unfoldable pub picture_entry : List ℕ → FoundPicture
-picture_entry w = pick (all (picture_tests w)) (FoundPicture.There (picture_of w) (width_in w)) FoundPicture.Absent
+-- what a look-up of a picture set finds: the set, beside its change cycle's width
+pattern abbrev pub found_picture : Picture → ℕ → Option (Picture × ℕ)
+found_picture p w = Some (p, w)
 
-unfoldable pub sequence_in : List ℕ → ℕ → FoundSequence
-sequence_in t id = pick (leb id 31) (sequence_entry (drop (id * 7) t)) FoundSequence.Absent
+unfoldable pub picture_entry : List ℕ → Option (Picture × ℕ)
+picture_entry w = pick (all (picture_tests w)) (found_picture (picture_of w) (width_in w)) None
 
-unfoldable pub picture_in : List ℕ → ℕ → FoundPicture
-picture_in t id = pick (leb id 255) (picture_entry (drop (id * 9) t)) FoundPicture.Absent
+unfoldable pub sequence_in : List ℕ → ℕ → Option Sequence
+sequence_in t id = pick (leb id 31) (sequence_entry (drop (id * 7) t)) None
 
-abbrev pub sequence_at : Table → ℕ → FoundSequence
+unfoldable pub picture_in : List ℕ → ℕ → Option (Picture × ℕ)
+picture_in t id = pick (leb id 255) (picture_entry (drop (id * 9) t)) None
+
+abbrev pub sequence_at : Table → ℕ → Option Sequence
 sequence_at t id = sequence_in t.sequences id
 
-abbrev pub picture_at : Table → ℕ → FoundPicture
+abbrev pub picture_at : Table → ℕ → Option (Picture × ℕ)
 picture_at t id = picture_in t.pictures id
 
 -- ---- putting: the answer, and the array or table at exit
 
 pub record Put : Type 0 where
-  pub answer : Changed
+  pub answer : Result ⊤ Refusal
   pub left : List ℕ
 
 -- the words in place of the entry's, where all is in range; else 24 and no change
 abbrev pub put_words : Bool → List ℕ → ℕ → List ℕ → Put
 put_words good t at w =
-    pick good (record { answer = Changed.Done; left = sets t at w }) (record { answer = Changed.Refused (refusal table_field (pos 0)); left = t })
+    pick good (record { answer = Ok tt; left = sets t at w }) (record { answer = Err (refusal table_field (pos 0)); left = t })
 
 unfoldable pub sequence_put : List ℕ → ℕ → Sequence → Put
 sequence_put t id s = put_words (leb id 31 && sequence_fits s) t (id * 7) (sequence_words s)
 
 -- the width of slice_group_change_cycle for a picture set with this change rate, by what is found under its sequence set's id: 0 where that is not there, or where
 -- the rate is absent
-abbrev pub cycle_width : FoundSequence → ℕ → ℕ
-cycle_width (FoundSequence.There s) rate = change_cycle_width s.pic_size_in_map_units rate
-cycle_width FoundSequence.Absent rate = 0
+abbrev pub cycle_width : Option Sequence → ℕ → ℕ
+cycle_width (Some s) rate = change_cycle_width s.pic_size_in_map_units rate
+cycle_width None rate = 0
 
 unfoldable pub picture_put : List ℕ → List ℕ → ℕ → Picture → Put
 picture_put s t id p =
@@ -144,10 +147,10 @@ picture_put s t id p =
     (picture_words p (cycle_width (sequence_in s p.seq_parameter_set_id) p.slice_group_change_rate))
 
 -- a new sequence set: entry j has its width anew, where it holds a set that names it
-abbrev pub renewed_by : ℕ → ℕ → List ℕ → ℕ → FoundPicture → List ℕ
-renewed_by id size t j (FoundPicture.There p w) =
+abbrev pub renewed_by : ℕ → ℕ → List ℕ → ℕ → Option (Picture × ℕ) → List ℕ
+renewed_by id size t j (found_picture p w) =
     pick (eqb p.seq_parameter_set_id id) (set t (j * 9 + 8) (change_cycle_width size p.slice_group_change_rate)) t
-renewed_by id size t j FoundPicture.Absent = t
+renewed_by id size t j None = t
 
 -- and so have the first n entries, one after the other
 unfoldable pub renewed : ℕ → ℕ → List ℕ → ℕ → List ℕ

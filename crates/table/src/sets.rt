@@ -46,27 +46,21 @@ pub fn both(a: bool, b: bool) -> bool
 pub(crate) fn within(low: u32, high: u32, n: u32) -> bool
     ensures { result ≡ between low high n }
 {
-    if n < low {
-        return false;
-    }
-    n <= high
+    low <= n && n <= high
 }
 
 // The same of a signed number; those of 32 bits come cast.
 pub fn within_signed(low: i64, high: i64, z: i64) -> bool
     ensures { result ≡ between_z low high z }
 {
-    if low <= z { z <= high } else { false }
+    low <= z && z <= high
 }
 
 // Separate planes only with chroma format 3.
 fn planes_fit(separate: bool, chroma: u32) -> bool
     ensures { result ≡ planes_fit separate chroma }
 {
-    if separate {
-        return chroma == 3;
-    }
-    true
+    !separate || chroma == 3
 }
 
 // Whether every field is within the rules' sizes.

@@ -3,9 +3,8 @@ ghost use Rattle.std.specs.Prelude.{◌≡◌};
 ghost use Rattle.table.specs.Tables.{empty_table, sequence_at, picture_at, put_sequence, put_picture};
 
 use crate::sets::{Picture, Sequence};
-use crate::words::{
-    Changed, FoundPicture, FoundSequence, picture_in, put_picture_in, put_sequence_in, sequence_in,
-};
+use crate::words::{picture_in, put_picture_in, put_sequence_in, sequence_in};
+use bits::refusals::Refusal;
 
 #[repr(C)]
 #[derive(Clone, Copy)]
@@ -17,7 +16,7 @@ pub struct Table {
 // A table's answer beside the table, where it goes by value.
 #[derive(Clone, Copy)]
 pub struct WithTable {
-    pub answer: Changed,
+    pub answer: Result<(), Refusal>,
     pub table: Table,
 }
 
@@ -31,25 +30,25 @@ pub fn empty() -> Table
     }
 }
 
-pub fn sequence_at(t: &Table, id: u32) -> FoundSequence
+pub fn sequence_at(t: &Table, id: u32) -> Option<Sequence>
     ensures { result ≡ sequence_at t.now id }
 {
     sequence_in(&t.sequences, id)
 }
 
-pub fn picture_at(t: &Table, id: u32) -> FoundPicture
+pub fn picture_at(t: &Table, id: u32) -> Option<(Picture, u32)>
     ensures { result ≡ picture_at t.now id }
 {
     picture_in(&t.pictures, id)
 }
 
-pub fn put_sequence(t: &mut Table, id: u32, s: Sequence) -> Changed
+pub fn put_sequence(t: &mut Table, id: u32, s: Sequence) -> Result<(), Refusal>
     ensures { (result ≡ (put_sequence t.old id s).answer) × (t.new ≡ (put_sequence t.old id s).table) }
 {
     put_sequence_in(&mut t.sequences, &mut t.pictures, id, s)
 }
 
-pub fn put_picture(t: &mut Table, id: u32, p: Picture) -> Changed
+pub fn put_picture(t: &mut Table, id: u32, p: Picture) -> Result<(), Refusal>
     ensures { (result ≡ (put_picture t.old id p).answer) × (t.new ≡ (put_picture t.old id p).table) }
 {
     put_picture_in(&t.sequences, &mut t.pictures, id, p)

@@ -10,27 +10,6 @@ use crate::sets::{Picture, Sequence, both, picture_fits, sequence_fits, within};
 use bits::refusals::{Refusal, TABLE_FIELD, refuse};
 use bits::width::change_cycle_width;
 
-// What a look-up finds.
-#[derive(Clone, Copy)]
-pub enum FoundSequence {
-    Absent,
-    There(Sequence),
-}
-
-// With a picture set stands its change cycle's width.
-#[derive(Clone, Copy)]
-pub enum FoundPicture {
-    Absent,
-    There(Picture, u32),
-}
-
-// What a change of the table answers.
-#[derive(Clone, Copy)]
-pub enum Changed {
-    Done,
-    Refused(Refusal),
-}
-
 // A signed field from its word, and the word from the field: the word is the field plus `by`.
 fn lowered(w: u32, by: u32) -> i32
     requires { (w ≤ 87) × (by ≤ 62) }
@@ -74,11 +53,11 @@ fn picture_marks(p: Picture) -> u32
     32 + (entropy + (bottom + (weighted + (control + redundant))))
 }
 
-pub fn sequence_in(t: &[u32; 224], id: u32) -> FoundSequence
+pub fn sequence_in(t: &[u32; 224], id: u32) -> Option<Sequence>
     ensures { result ≡ sequence_in t.now id }
 {
     if 31 < id {
-        return FoundSequence::Absent;
+        return None;
     }
     let k = id * 7;
     let i = k as usize;
@@ -101,17 +80,17 @@ pub fn sequence_in(t: &[u32; 224], id: u32) -> FoundSequence
         pic_size_in_map_units,
     };
     if both(within(8, 15, marks), sequence_fits(s)) {
-        FoundSequence::There(s)
+        Some(s)
     } else {
-        FoundSequence::Absent
+        None
     }
 }
 
-pub fn picture_in(t: &[u32; 2304], id: u32) -> FoundPicture
+pub fn picture_in(t: &[u32; 2304], id: u32) -> Option<(Picture, u32)>
     ensures { result ≡ picture_in t.now id }
 {
     if 255 < id {
-        return FoundPicture::Absent;
+        return None;
     }
     let k = id * 9;
     let i = k as usize;
@@ -128,7 +107,7 @@ pub fn picture_in(t: &[u32; 2304], id: u32) -> FoundPicture
         within(32, 63, marks),
         both(qp <= 87, both(qs <= 51, width <= 25)),
     ) {
-        return FoundPicture::Absent;
+        return None;
     }
     let p = Picture {
         seq_parameter_set_id,
@@ -145,19 +124,19 @@ pub fn picture_in(t: &[u32; 2304], id: u32) -> FoundPicture
         slice_group_change_rate,
     };
     if picture_fits(p) {
-        FoundPicture::There(p, width)
+        Some((p, width))
     } else {
-        FoundPicture::Absent
+        None
     }
 }
 
 // How wide slice_group_change_cycle is for a picture set with this change rate, by what is found under its sequence set's id.
-fn cycle_width(found: FoundSequence, rate: u32) -> u32
+fn cycle_width(found: Option<Sequence>, rate: u32) -> u32
     ensures { result ≡ cycle_width found rate }
 {
     match found {
-        FoundSequence::There(s) => change_cycle_width(s.pic_size_in_map_units, rate),
-        FoundSequence::Absent => 0,
+        Some(s) => change_cycle_width(s.pic_size_in_map_units, rate),
+        None => 0,
     }
 }
 
@@ -166,7 +145,7 @@ fn renew_entry(t: &mut [u32; 2304], id: u32, size: u32, j: u32)
     ensures { t.new ≡ renewed_by id size t.old j (picture_in t.old j) }
 {
     let found = picture_in(t, j);
-    let FoundPicture::There(p, _) = found else {
+    let Some((p, _)) = found else {
         return;
     };
     if p.seq_parameter_set_id != id {
@@ -181,10 +160,8 @@ fn renew_entry(t: &mut [u32; 2304], id: u32, size: u32, j: u32)
 fn renew(t: &mut [u32; 2304], id: u32, size: u32)
     ensures { t.new ≡ renewed id size t.old 256 }
 {
-    let mut j: u32 = 0;
-    while j < 256 {
+    for j in 0..256 {
         renew_entry(t, id, size, j);
-        j += 1;
     }
 }
 
@@ -195,14 +172,14 @@ pub fn put_sequence_in(
     pictures: &mut [u32; 2304],
     id: u32,
     s: Sequence,
-) -> Changed
+) -> Result<(), Refusal>
     ensures { (result ≡ (sequence_put t.old id s).answer) × ((t.new ≡ (sequence_put t.old id s).left) × (pictures.new ≡ widths_after pictures.old id s)) }
 {
     if 31 < id {
-        return Changed::Refused(refuse(TABLE_FIELD, 0));
+        return Err(refuse(TABLE_FIELD, 0));
     }
     if !sequence_fits(s) {
-        return Changed::Refused(refuse(TABLE_FIELD, 0));
+        return Err(refuse(TABLE_FIELD, 0));
     }
     let marks = sequence_marks(s);
     let k = id * 7; // seven words an entry
@@ -215,18 +192,23 @@ pub fn put_sequence_in(
     t[i + 5] = s.log2_max_pic_order_cnt_lsb_minus4;
     t[i + 6] = s.pic_size_in_map_units;
     renew(pictures, id, s.pic_size_in_map_units);
-    Changed::Done
+    Ok(())
 }
 
 // The same for a picture set, whose width goes by the sequence set that it names.
-pub fn put_picture_in(sequences: &[u32; 224], t: &mut [u32; 2304], id: u32, p: Picture) -> Changed
+pub fn put_picture_in(
+    sequences: &[u32; 224],
+    t: &mut [u32; 2304],
+    id: u32,
+    p: Picture,
+) -> Result<(), Refusal>
     ensures { (result ≡ (picture_put sequences.now t.old id p).answer) × (t.new ≡ (picture_put sequences.now t.old id p).left) }
 {
     if 255 < id {
-        return Changed::Refused(refuse(TABLE_FIELD, 0));
+        return Err(refuse(TABLE_FIELD, 0));
     }
     if !picture_fits(p) {
-        return Changed::Refused(refuse(TABLE_FIELD, 0));
+        return Err(refuse(TABLE_FIELD, 0));
     }
     let marks = picture_marks(p);
     let found = sequence_in(sequences, p.seq_parameter_set_id);
@@ -242,5 +224,5 @@ pub fn put_picture_in(sequences: &[u32; 224], t: &mut [u32; 2304], id: u32, p: P
     t[i + 6] = raised(p.pic_init_qs_minus26, 26);
     t[i + 7] = p.slice_group_change_rate;
     t[i + 8] = width;
-    Changed::Done
+    Ok(())
 }

@@ -9,15 +9,12 @@ const LAST: usize = 18446744073709551615;
 
 // The place after a name's colon.
 fn name_end(s: &[u8], from: usize) -> usize {
-    let mut i = from;
-    while i < s.len() {
-        let b = s[i];
-        i += 1;
-        if b == 58 {
-            return i;
+    for i in from..s.len() {
+        if s[i] == 58 {
+            return i + 1;
         }
     }
-    i
+    from.max(s.len())
 }
 
 fn name(rt: &impl Print, s: &[u8], from: usize, to: usize) -> io::Result<()> {
@@ -47,12 +44,10 @@ fn put(d: &mut [u8], i: usize, b: u8) {
 // The bytes that are given. The place after them.
 fn bytes(d: &mut [u8], s: &[u8], from: usize, n: u32) -> usize {
     let mut at = from;
-    let mut i: u32 = 0;
-    while i < n {
+    for i in 0..n {
         let b = number_at(s, at);
         put(d, i as usize, (b.size % 256) as u8);
         at = b.next;
-        i += 1;
     }
     at
 }
@@ -102,10 +97,8 @@ fn case(rt: &impl Print, s: &[u8], from: usize) -> io::Result<usize> {
 pub(crate) fn all(rt: &impl Print, s: &[u8]) -> io::Result<()> {
     let n = number_at(s, 0);
     let mut at = n.next;
-    let mut i: u32 = 0;
-    while i < n.size {
+    for _ in 0..n.size {
         at = case(rt, s, at)?;
-        i += 1;
     }
     Ok(())
 }

@@ -18,15 +18,13 @@ fn more(size: u32, b: u8) -> u32 {
 
 fn digits(s: &[u8], from: usize, negative: bool) -> Number {
     let mut size: u32 = 0;
-    let mut next = from;
-    while next < s.len() {
-        let b = s[next];
-        next += 1;
+    for i in from..s.len() {
+        let b = s[i];
         if !is_digit(b) {
             return Number {
                 negative,
                 size,
-                next,
+                next: i + 1,
             };
         }
         size = more(size, b);
@@ -34,7 +32,7 @@ fn digits(s: &[u8], from: usize, negative: bool) -> Number {
     Number {
         negative,
         size,
-        next,
+        next: from.max(s.len()),
     }
 }
 

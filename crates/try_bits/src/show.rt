@@ -1,6 +1,5 @@
 // Answers as text.
-use bits::put::Wrote;
-use bits::read::{Read, ReadFlag, ReadSigned};
+use bits::read::{Cursor, Read};
 use bits::refusals::Refusal;
 use std::io;
 
@@ -17,10 +16,8 @@ pub(crate) fn signed(rt: &impl Print, n: i64) -> io::Result<()> {
 }
 
 pub(crate) fn bytes(rt: &impl Print, d: &[u8]) -> io::Result<()> {
-    let mut i = 0;
-    while i < d.len() {
-        byte(rt, d[i])?;
-        i += 1;
+    for b in d {
+        byte(rt, *b)?;
     }
     Ok(())
 }
@@ -46,31 +43,31 @@ pub(crate) fn refusal(rt: &impl Print, r: Refusal) -> io::Result<()> {
     place(rt, r)
 }
 
-pub(crate) fn read(rt: &impl Print, a: Read) -> io::Result<()> {
+pub(crate) fn read(rt: &impl Print, a: Read<u32>) -> io::Result<()> {
     match a {
-        Read::Got(v, c) => {
+        Ok((v, c)) => {
             number(rt, v as u64)?;
             text(rt, b" next=")?;
             number(rt, c.at as u64)
         }
-        Read::Refused(r) => refusal(rt, r),
+        Err(r) => refusal(rt, r),
     }
 }
 
-pub(crate) fn read_signed(rt: &impl Print, a: ReadSigned) -> io::Result<()> {
+pub(crate) fn read_signed(rt: &impl Print, a: Read<i32>) -> io::Result<()> {
     match a {
-        ReadSigned::Got(v, c) => {
+        Ok((v, c)) => {
             signed(rt, v as i64)?;
             text(rt, b" next=")?;
             number(rt, c.at as u64)
         }
-        ReadSigned::Refused(r) => refusal(rt, r),
+        Err(r) => refusal(rt, r),
     }
 }
 
-pub(crate) fn read_flag(rt: &impl Print, a: ReadFlag) -> io::Result<()> {
+pub(crate) fn read_flag(rt: &impl Print, a: Read<bool>) -> io::Result<()> {
     match a {
-        ReadFlag::Got(v, c) => {
+        Ok((v, c)) => {
             if v {
                 text(rt, b"set")?;
             } else {
@@ -79,18 +76,18 @@ pub(crate) fn read_flag(rt: &impl Print, a: ReadFlag) -> io::Result<()> {
             text(rt, b" next=")?;
             number(rt, c.at as u64)
         }
-        ReadFlag::Refused(r) => refusal(rt, r),
+        Err(r) => refusal(rt, r),
     }
 }
 
 // A write's answer, and the buffer after it.
-pub(crate) fn wrote(rt: &impl Print, a: Wrote, d: &[u8]) -> io::Result<()> {
+pub(crate) fn wrote(rt: &impl Print, a: Result<Cursor, Refusal>, d: &[u8]) -> io::Result<()> {
     match a {
-        Wrote::At(c) => {
+        Ok(c) => {
             text(rt, b"next=")?;
             number(rt, c.at as u64)?;
         }
-        Wrote::Refused(r) => refusal(rt, r)?,
+        Err(r) => refusal(rt, r)?,
     }
     text(rt, b" buffer")?;
     bytes(rt, d)

@@ -1,11 +1,12 @@
 // First bytes, extensions and bodies.
 use super::show;
-use escape::escape::{Body, unescape};
+use bits::refusals::Refusal;
+use escape::escape::unescape;
 use nal::extension::{
-    ExtensionRead, NalHeaderExtension, NalHeaderMvcExtension, NalHeaderSvcExtension, extension_of,
+    NalHeaderExtension, NalHeaderMvcExtension, NalHeaderSvcExtension, extension_of,
 };
-use nal::header::{NalHeader, NalHeaderRead, header_of};
-use nal::unit_type::{UnitType, UnitTypeForId};
+use nal::header::{NalHeader, header_of};
+use nal::unit_type::{UnitType, UnitTypeError};
 use std::io;
 
 fn flag(rt: &impl Print, name: &[u8], b: bool) -> io::Result<()> {
@@ -21,18 +22,18 @@ fn field(rt: &impl Print, name: &[u8], n: u64) -> io::Result<()> {
 // An id, and the id of its type again.
 fn type_of(rt: &impl Print, id: u8) -> io::Result<()> {
     match UnitType::for_id(id) {
-        UnitTypeForId::Type(t) => show::number(rt, t.id() as u64),
-        UnitTypeForId::ValueOutOfRange(v) => {
+        Ok(t) => show::number(rt, t.id() as u64),
+        Err(UnitTypeError::ValueOutOfRange(v)) => {
             show::text(rt, b"out of range ")?;
             show::number(rt, v as u64)
         }
     }
 }
 
-fn show_header(rt: &impl Print, a: NalHeaderRead) -> io::Result<()> {
+fn show_header(rt: &impl Print, a: Result<NalHeader, Refusal>) -> io::Result<()> {
     match a {
-        NalHeaderRead::Got(h) => header(rt, h),
-        NalHeaderRead::Refused(r) => show::refusal(rt, r),
+        Ok(h) => header(rt, h),
+        Err(r) => show::refusal(rt, r),
     }
 }
 
@@ -42,10 +43,10 @@ fn header(rt: &impl Print, h: NalHeader) -> io::Result<()> {
     field(rt, b" nal_unit_type=", t.id() as u64)
 }
 
-fn show_extension(rt: &impl Print, a: ExtensionRead) -> io::Result<()> {
+fn show_extension(rt: &impl Print, a: Result<NalHeaderExtension, Refusal>) -> io::Result<()> {
     match a {
-        ExtensionRead::Got(e) => extension(rt, e),
-        ExtensionRead::Refused(r) => show::refusal(rt, r),
+        Ok(e) => extension(rt, e),
+        Err(r) => show::refusal(rt, r),
     }
 }
 
@@ -92,11 +93,11 @@ fn body(rt: &impl Print, unit: &[u8], from: usize) -> io::Result<()> {
     let mut scratch = [0xeeu8; 12];
     let a = unescape(unit, from, &mut scratch);
     match a {
-        Body::Of(n) => {
+        Ok(n) => {
             show::text(rt, b"bytes=")?;
             show::number(rt, n as u64)?;
         }
-        Body::Refused(r) => show::refusal(rt, r)?,
+        Err(r) => show::refusal(rt, r)?,
     }
     show::text(rt, b" scratch")?;
     show::bytes(rt, &scratch)

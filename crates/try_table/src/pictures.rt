@@ -82,26 +82,22 @@ fn signed_name(rt: &impl Print, i: usize) -> io::Result<()> {
 }
 
 fn unsigned_fields(rt: &impl Print) -> io::Result<()> {
-    let mut i = 0;
-    while i < 16 {
+    for i in 0..16 {
         let field = FIELDS[i];
         let v = VALUES[i];
         name(rt, field)?;
         show::number(rt, v)?;
         show::put_picture_at_5(rt, changed(field, v))?;
-        i += 1;
     }
     Ok(())
 }
 
 fn signed_fields(rt: &impl Print) -> io::Result<()> {
-    let mut i = 0;
-    while i < 10 {
+    for i in 0..10 {
         let field = SIGNED_FIELDS[i];
         let v = SIGNED_VALUES[i];
         signed_name(rt, i)?;
         show::put_picture_at_5(rt, changed_signed(field, v))?;
-        i += 1;
     }
     Ok(())
 }

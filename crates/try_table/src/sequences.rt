@@ -58,14 +58,12 @@ fn name(rt: &impl Print, field: u8) -> io::Result<()> {
 }
 
 pub(crate) fn all(rt: &impl Print) -> io::Result<()> {
-    let mut i = 0;
-    while i < 23 {
+    for i in 0..23 {
         let field = FIELDS[i];
         let v = VALUES[i];
         name(rt, field)?;
         show::number(rt, v)?;
         show::put_sequence_at_5(rt, changed(field, v))?;
-        i += 1;
     }
     Ok(())
 }

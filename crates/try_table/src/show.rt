@@ -1,8 +1,9 @@
 // A set put into a table: the answer, and what the entry then holds.
+use bits::refusals::Refusal;
 use std::io;
 use table::sets::{Picture, Sequence};
 use table::table::{empty, with_picture, with_sequence};
-use table::words::{Changed, FoundPicture, FoundSequence, picture_in, sequence_in};
+use table::words::{picture_in, sequence_in};
 
 pub(crate) fn text(rt: &impl Print, t: &[u8]) -> io::Result<()> {
     rt.write_all(t)
@@ -12,10 +13,10 @@ pub(crate) fn number(rt: &impl Print, n: u32) -> io::Result<()> {
     rt.print(n)
 }
 
-pub(crate) fn changed(rt: &impl Print, a: Changed) -> io::Result<()> {
+pub(crate) fn changed(rt: &impl Print, a: Result<(), Refusal>) -> io::Result<()> {
     match a {
-        Changed::Done => text(rt, b": done"),
-        Changed::Refused(r) => {
+        Ok(()) => text(rt, b": done"),
+        Err(r) => {
             text(rt, b": refused ")?;
             number(rt, r.number as u32)?;
             value(rt, r.value)?;
@@ -40,9 +41,9 @@ fn value(rt: &impl Print, v: i64) -> io::Result<()> {
     }
 }
 
-pub(crate) fn found_sequence(rt: &impl Print, f: FoundSequence) -> io::Result<()> {
+pub(crate) fn found_sequence(rt: &impl Print, f: Option<Sequence>) -> io::Result<()> {
     match f {
-        FoundSequence::There(s) => {
+        Some(s) => {
             text(rt, b" there ")?;
             number(rt, s.chroma_format_idc)?;
             text(rt, b":")?;
@@ -50,14 +51,18 @@ pub(crate) fn found_sequence(rt: &impl Print, f: FoundSequence) -> io::Result<()
             text(rt, b":")?;
             number(rt, s.pic_size_in_map_units)
         }
-        FoundSequence::Absent => text(rt, b" absent"),
+        None => text(rt, b" absent"),
     }
 }
 
 // A picture set that is found, beside the one that was put: its signed fields are told by whether they are the same.
-pub(crate) fn found_picture(rt: &impl Print, f: FoundPicture, put: Picture) -> io::Result<()> {
+pub(crate) fn found_picture(
+    rt: &impl Print,
+    f: Option<(Picture, u32)>,
+    put: Picture,
+) -> io::Result<()> {
     match f {
-        FoundPicture::There(p, _) => {
+        Some((p, _)) => {
             text(rt, b" there ")?;
             number(rt, p.seq_parameter_set_id)?;
             text(rt, b":")?;
@@ -65,18 +70,18 @@ pub(crate) fn found_picture(rt: &impl Print, f: FoundPicture, put: Picture) -> i
             same(rt, p.pic_init_qp_minus26, put.pic_init_qp_minus26)?;
             same(rt, p.pic_init_qs_minus26, put.pic_init_qs_minus26)
         }
-        FoundPicture::Absent => text(rt, b" absent"),
+        None => text(rt, b" absent"),
     }
 }
 
 // The width that stands with a picture set.
-pub(crate) fn width(rt: &impl Print, f: FoundPicture) -> io::Result<()> {
+pub(crate) fn width(rt: &impl Print, f: Option<(Picture, u32)>) -> io::Result<()> {
     match f {
-        FoundPicture::There(_, w) => {
+        Some((_, w)) => {
             text(rt, b" ")?;
             number(rt, w)
         }
-        FoundPicture::Absent => text(rt, b" absent"),
+        None => text(rt, b" absent"),
     }
 }
 

@@ -1,12 +1,12 @@
 // A unit read with the sample sets, and a picture set 1 with deblocking control: its answer as text.
 use bits::refusals::Refusal;
 use std::io;
-use syntax::marks::MarkedFlag;
+use syntax::marks::Marked;
 use syntax::record::{Prefix, SliceHeader};
 use table::sets::{Picture, Sequence};
 use table::table::{Table, empty, with_picture, with_sequence};
 use unit::answer::UnitAnswer;
-use unit::head::{HeadRead, UnitHead, head};
+use unit::head::{UnitHead, head};
 use unit::unit::read_body_in;
 
 fn text(rt: &impl Print, t: &[u8]) -> io::Result<()> {
@@ -81,8 +81,8 @@ pub(crate) fn shown_for(
 ) -> io::Result<()> {
     text(rt, name)?;
     match head(other) {
-        HeadRead::Got(h) => body(rt, h, bytes, value, said)?,
-        HeadRead::Refused(x) => refused(rt, x, value, said)?,
+        Ok(h) => body(rt, h, bytes, value, said)?,
+        Err(x) => refused(rt, x, value, said)?,
     }
     text(rt, b"\n")
 }
@@ -142,7 +142,7 @@ fn header(rt: &impl Print, h: SliceHeader) -> io::Result<()> {
     field(rt, b" idc=", idc.value)
 }
 
-fn flag(rt: &impl Print, name: &[u8], f: MarkedFlag) -> io::Result<()> {
+fn flag(rt: &impl Print, name: &[u8], f: Marked<bool>) -> io::Result<()> {
     if f.there {
         field(rt, name, f.value as u32)?;
     }

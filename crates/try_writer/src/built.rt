@@ -52,10 +52,8 @@ fn next(u: &mut [u8; 9216], s: Built, b: u8) -> Built {
 // The first n bytes of a body, escaped, from a place of the unit on. The place after them.
 fn escape(u: &mut [u8; 9216], from: usize, d: &[u8], n: usize) -> usize {
     let mut s = Built { at: from, zeros: 0 };
-    let mut i = 0;
-    while i < n {
+    for i in 0..n {
         s = next(u, s, byte_at(d, i));
-        i += 1;
     }
     s.at
 }

@@ -8,15 +8,12 @@ use std::io;
 
 // The place after a name's colon.
 fn name_end(s: &[u8], from: usize) -> usize {
-    let mut i = from;
-    while i < s.len() {
-        let b = s[i];
-        i += 1;
-        if b == 58 {
-            return i;
+    for i in from..s.len() {
+        if s[i] == 58 {
+            return i + 1;
         }
     }
-    i
+    from.max(s.len())
 }
 
 fn name(rt: &impl Print, s: &[u8], from: usize, to: usize) -> io::Result<()> {
@@ -48,11 +45,9 @@ fn fill(
     v: Number,
 ) {
     let mut at = from as usize;
-    let mut i: u32 = 0;
-    while i < times {
+    for _ in 0..times {
         put(numbers, signed, l0, l1, marking, w0, w1, at, v);
         at = later(at, step);
-        i += 1;
     }
 }
 
@@ -92,10 +87,8 @@ fn changes(
     n: u32,
 ) -> usize {
     let mut at = from;
-    let mut i: u32 = 0;
-    while i < n {
+    for _ in 0..n {
         at = change(numbers, signed, l0, l1, marking, w0, w1, s, at);
-        i += 1;
     }
     at
 }
@@ -160,10 +153,8 @@ fn each<'a>(
     n: u32,
 ) -> io::Result<()> {
     let mut at = from;
-    let mut i: u32 = 0;
-    while i < n {
+    for _ in 0..n {
         at = case(rt, sequences, pictures, s, at)?;
-        i += 1;
     }
     Ok(())
 }

@@ -9,23 +9,19 @@ fn signed_at(a: &[i32], i: usize) -> i32 {
 
 // The first n words of two arrays.
 fn numbers(a: &[u32], b: &[u32], n: usize) -> bool {
-    let mut i = 0;
-    while i < n {
+    for i in 0..n {
         if number_at(a, i) != number_at(b, i) {
             return false;
         }
-        i += 1;
     }
     true
 }
 
 fn signed_numbers(a: &[i32], b: &[i32], n: usize) -> bool {
-    let mut i = 0;
-    while i < n {
+    for i in 0..n {
         if signed_at(a, i) != signed_at(b, i) {
             return false;
         }
-        i += 1;
     }
     true
 }

@@ -49,10 +49,8 @@ fn byte(rt: &impl Print, b: u8) -> io::Result<()> {
 }
 
 fn bytes(rt: &impl Print, d: &[u8], n: usize) -> io::Result<()> {
-    let mut i = 0;
-    while i < n {
+    for i in 0..n {
         byte(rt, byte_at(d, i))?;
-        i += 1;
     }
     Ok(())
 }
@@ -69,11 +67,9 @@ fn half(rt: &impl Print, n: u32) -> io::Result<()> {
 fn sum(rt: &impl Print, d: &[u8], n: usize) -> io::Result<()> {
     let mut a: u32 = 1;
     let mut b: u32 = 0;
-    let mut i = 0;
-    while i < n {
+    for i in 0..n {
         a = added(a, wide(byte_at(d, i)));
         b = added(b, a);
-        i += 1;
     }
     half(rt, b)?;
     half(rt, a)
@@ -94,12 +90,10 @@ pub(crate) fn written(rt: &impl Print, d: &[u8], n: usize) -> io::Result<()> {
 
 // Whether all bytes from a place on are still those that the buffer was filled with.
 pub(crate) fn is_filled(d: &[u8], from: usize) -> bool {
-    let mut i = from;
-    while i < d.len() {
+    for i in from..d.len() {
         if d[i] != 0xa5 {
             return false;
         }
-        i += 1;
     }
     true
 }

@@ -2,11 +2,13 @@
 use super::{built, same, show};
 use bits::put::put_bits;
 use bits::read::Cursor;
+use bits::refusals::Refusal;
+use header::slice::Words;
 use std::io;
-use unit::head::{HeadRead, head};
-use unit::into::{ShortAnswer, read_body_into};
+use unit::head::head;
+use unit::into::{AllWords, ShortAnswer, read_body_into};
 use writer::given::ExtensionGiven;
-use writer::write::{HeaderWrote, write_words_in};
+use writer::write::write_words_in;
 
 // What the unit starts with.
 #[derive(Clone, Copy)]
@@ -104,20 +106,11 @@ fn read_in_turn<'a>(
     pictures: &'a [u32; 2304],
     u: &[u8],
     scratch: &mut [u8],
-    numbers: &mut [u32; 57],
-    signed: &mut [i32; 7],
-    l0: &mut [u32; 198],
-    l1: &mut [u32; 198],
-    marking: &mut [u32; 198],
-    w0: &mut [i32; 256],
-    w1: &mut [i32; 256],
-    base: &mut [u32; 198],
+    w: &mut AllWords<'_>,
 ) -> ShortAnswer {
     match head(u) {
-        HeadRead::Got(h) => read_body_into(
-            h, sequences, pictures, u, scratch, numbers, signed, l0, l1, marking, w0, w1, base,
-        ),
-        HeadRead::Refused(r) => ShortAnswer::Refused(r),
+        Ok(h) => read_body_into(h, sequences, pictures, u, scratch, w),
+        Err(r) => ShortAnswer::Refused(r),
     }
 }
 
@@ -147,20 +140,20 @@ fn read_part<'a>(
         let mut v0 = [0i32; 256];
         let mut v1 = [0i32; 256];
         let mut base = [0u32; 198];
-        let answer = read_in_turn(
-            sequences,
-            pictures,
-            &u[..n],
-            &mut scratch,
-            &mut numbers2,
-            &mut signed2,
-            &mut m0,
-            &mut m1,
-            &mut marking2,
-            &mut v0,
-            &mut v1,
-            &mut base,
-        );
+        let header = Words {
+            numbers: &mut numbers2,
+            signed: &mut signed2,
+            l0: &mut m0,
+            l1: &mut m1,
+            marking: &mut marking2,
+            w0: &mut v0,
+            w1: &mut v1,
+        };
+        let mut w = AllWords {
+            header,
+            base: &mut base,
+        };
+        let answer = read_in_turn(sequences, pictures, &u[..n], &mut scratch, &mut w);
         let is_same = same::header(
             numbers, signed, l0, l1, marking, w0, w1, &numbers2, &signed2, &m0, &m1, &marking2,
             &v0, &v1,
@@ -207,7 +200,7 @@ fn back<'a>(
     d: &mut [u8; 6144],
     bits: usize,
 ) -> io::Result<()> {
-    put_bits(d, Cursor { at: bits }, 9, 511);
+    let _ = put_bits(d, Cursor { at: bits }, 9, 511);
     let mut u = [0u8; 9216];
     let n = built::unit(&mut u, s.first, s.extension, d, bits / 8 + 3);
     read_back(
@@ -229,7 +222,7 @@ fn written<'a>(
     w1: &[i32; 256],
     d: &mut [u8],
     room: usize,
-) -> HeaderWrote {
+) -> Result<usize, Refusal> {
     if room <= d.len() {
         return write_words_in(
             sequences,
@@ -281,13 +274,13 @@ pub(crate) fn line<'a>(
     match written(
         sequences, pictures, s, numbers, signed, l0, l1, marking, w0, w1, &mut d, room,
     ) {
-        HeaderWrote::Bits(n) => {
+        Ok(n) => {
             bytes(rt, &d, n)?;
             back(
                 rt, sequences, pictures, s, numbers, signed, l0, l1, marking, w0, w1, &mut d, n,
             )?;
         }
-        HeaderWrote::Refused(r) => {
+        Err(r) => {
             show::refusal(rt, r)?;
             kept(rt, &d, 0)?;
         }

@@ -11,7 +11,6 @@ use Rattle.bits.specs.Refusals.{limit}
 use Rattle.bits.specs.declared.refusals.Refusal.{Refusal}
 use Rattle.bits.proofs.Results.{cases}
 use Rattle.nal.specs.declared.header.NalHeader.{NalHeader}
-use Rattle.nal.specs.declared.header.NalHeaderRead.{NalHeaderRead}
 use Rattle.nal.specs.declared.extension.NalHeaderExtension.{NalHeaderExtension}
 use Rattle.nal.specs.Header.{nal_ref_idc, nal_unit_type, header_of}
 use Rattle.nal.specs.UnitType.{type_of, id_of}
@@ -21,10 +20,10 @@ use Rattle.nal.proofs.Types.{id-of-type}
 use Rattle.table.proofs.Tests.{both}
 use Rattle.header.specs.Kinds.{kind_of}
 use Rattle.unit.specs.declared.head.UnitHead.{UnitHead}
-use Rattle.unit.specs.declared.head.HeadRead.{HeadRead}
 use Rattle.unit.specs.declared.begin.Begun.{Begun}
 use Rattle.unit.specs.Begin.{absent_extension, type_in, has_extension, prefix_kind, extended, by_type, typed, with_header, begun, first_of, begun_by}
 use Rattle.unit.specs.Head.{head_with, head_typed, head_first, head_of, equal, same_head}
+use Rattle.std.specs.Prelude.{Result, Ok, Err}
 
 -- ---- a first byte, and the one made of its head
 
@@ -57,13 +56,13 @@ module _ (h : NalHeader) (a b c : ℕ) where
 -- ---- a head that is given
 
 module _ (unit : List ℕ) {g : UnitHead} where
-  never : {r : Refusal} {b : Begun} → HeadRead.Refused r ≡ HeadRead.Got g → b ≡ begun_by g
+  never : {r : Refusal} {b : Begun} → ◌≡◌ {A = Result UnitHead Refusal} (Err r) (Ok g) → b ≡ begun_by g
   never q = let z : ◌≡◌ {A = ℕ} 0 1 = cc in absurd (omega arith)
 
-  given : {d : UnitHead} {b : Begun} → HeadRead.Got d ≡ HeadRead.Got g → b ≡ begun_by d → b ≡ begun_by g
+  given : {d : UnitHead} {b : Begun} → ◌≡◌ {A = Result UnitHead Refusal} (Ok d) (Ok g) → b ≡ begun_by d → b ≡ begun_by g
   given {d = d} q e = let p : d ≡ g = cc in e ∙ ap begun_by p
 
-  typed-given : (h : NalHeader) → head_typed unit h ≡ HeadRead.Got g → typed unit h ≡ begun_by g
+  typed-given : (h : NalHeader) → head_typed unit h ≡ Ok g → typed unit h ≡ begun_by g
   unfolding head_typed typed extension_of
   typed-given h q =
       cases (has_extension (type_in h))
@@ -73,11 +72,11 @@ module _ (unit : List ℕ) {g : UnitHead} where
       (λ j. never (rw (i, j) at q)))
       (λ i. given (rw i at q) (rw (same-begun h 0 0 0, i)))
 
-  first-given : (x : NalHeaderRead) → head_first unit x ≡ HeadRead.Got g → with_header unit x ≡ begun_by g
-  first-given (NalHeaderRead.Got h) q = typed-given h q
-  first-given (NalHeaderRead.Refused r) q = never q
+  first-given : (x : Result NalHeader Refusal) → head_first unit x ≡ Ok g → with_header unit x ≡ begun_by g
+  first-given (Ok h) q = typed-given h q
+  first-given (Err r) q = never q
 
-  pub begun-given : head_of unit ≡ HeadRead.Got g → begun unit ≡ begun_by g
+  pub begun-given : head_of unit ≡ Ok g → begun unit ≡ begun_by g
   unfolding head_of begun
   begun-given q =
       cases (leb (length unit) limit)
@@ -102,6 +101,6 @@ equal_is a b e =
 pub begun-own : (unit : List ℕ) (h : UnitHead) → same_head h (head_of unit) ≡ true → begun unit ≡ begun_by h
 begun-own unit h e = go (head_of unit) refl e
   where
-    go : (x : HeadRead) → head_of unit ≡ x → same_head h x ≡ true → begun unit ≡ begun_by h
-    go (HeadRead.Got g) q e = begun-given unit q ∙ ap begun_by (equal_is h g e)
-    go (HeadRead.Refused r) q e = absurd (true≢false (sym e))
+    go : (x : Result UnitHead Refusal) → head_of unit ≡ x → same_head h x ≡ true → begun unit ≡ begun_by h
+    go (Ok g) q e = begun-given unit q ∙ ap begun_by (equal_is h g e)
+    go (Err r) q e = absurd (true≢false (sym e))

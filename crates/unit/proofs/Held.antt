@@ -13,34 +13,34 @@ use Rattle.syntax.specs.declared.record.SliceHeader.{SliceHeader}
 use Rattle.syntax.specs.declared.record.Prefix.{Prefix}
 use Rattle.syntax.specs.SliceHeader.{read_header}
 use Rattle.syntax.specs.Prefix.{prefix}
-use Rattle.fields.specs.declared.step.End.{End}
-use Rattle.lists.specs.declared.list_words.PrefixStep.{PrefixStep}
 use Rattle.lists.specs.Leaves.{leaves}
 use Rattle.lists.specs.ListsLent.{prefix_step, prefix_left}
 use Rattle.header.specs.Short.{HeaderWords, header_end, header_left}
-use Rattle.parameter_sets.specs.declared.sequence.SequenceSetStep.{SequenceSetStep}
-use Rattle.parameter_sets.specs.declared.picture.PictureSetStep.{PictureSetStep}
 use Rattle.parameter_sets.specs.SequenceSet.{sequence_set}
-use Rattle.parameter_sets.specs.SequenceSteps.{as_sequence_set}
 use Rattle.parameter_sets.specs.PictureSet.{picture_set}
-use Rattle.parameter_sets.specs.PictureSteps.{as_picture_set}
 use Rattle.unit.specs.declared.answer.UnitAnswer.{UnitAnswer}
 use Rattle.unit.specs.declared.answer.UnitRead.{UnitRead}
 use Rattle.unit.specs.declared.into.ShortAnswer.{ShortAnswer}
 use Rattle.unit.specs.Answer.{only, slice_answer, prefix_answer}
 use Rattle.unit.specs.Unit.{UnitOut, untouched, slice_bits, prefix_bits, sequence_bits, picture_bits}
 use Rattle.unit.specs.Into.{short, short_answer, Lent, blank, after, words_after, ReadInto, slice_short, body_short, sequence_short, picture_short, Held, Taken}
+use Rattle.std.specs.Prelude.{Result, Ok, Err}
+use Rattle.bits.specs.Answers.{Read, as_read}
+use Rattle.bits.specs.declared.read.Cursor.{Cursor}
+use Rattle.parameter_sets.specs.declared.sequence.SequenceSet.{SequenceSet}
+use Rattle.parameter_sets.specs.declared.picture.PictureSet.{PictureSet}
+use Rattle.lists.specs.declared.list_words.PrefixShort.{PrefixShort}
 
 -- ---- the body of a slice
 
-slice-held : (m : Res SliceHeader) (b : HeaderWords) {a : End} {w : HeaderWords} → a ≡ header_end m → w ≡ header_left m b → (base : List ℕ)
+slice-held : (m : Res SliceHeader) (b : HeaderWords) {a : Result Cursor Refusal} {w : HeaderWords} → a ≡ header_end m → w ≡ header_left m b → (base : List ℕ)
     → (slice_short a ≡ short_answer (slice_answer m)) × Held (slice_short a) (slice_answer m) (record { header = b; base = base }) (record { header = w; base = base })
 unfolding header_end header_left short_answer words_after only
 slice-held (got h e) b p q base = rw p (refl, rw q)
 slice-held (no r) b p q base = rw p (refl, tt)
 
 module _ {o : UnitOut} {left : List ℕ} where
-  pub slice_taken : (t : Table) (kind : UnitKind) (s : Bits) → o ≡ record { read = slice_bits t kind s; left = left } → (b : HeaderWords) {a : End} {r : ShortAnswer} {w : HeaderWords}
+  pub slice_taken : (t : Table) (kind : UnitKind) (s : Bits) → o ≡ record { read = slice_bits t kind s; left = left } → (b : HeaderWords) {a : Result Cursor Refusal} {r : ShortAnswer} {w : HeaderWords}
       → a ≡ header_end (read_header t kind s) → w ≡ header_left (read_header t kind s) b → r ≡ slice_short a
       → (base : List ℕ) → Taken o r left (record { header = b; base = base }) (record { header = w; base = base })
   unfolding slice_bits
@@ -50,14 +50,14 @@ module _ {o : UnitOut} {left : List ℕ} where
 
 -- ---- the body of a prefix unit
 
-body-held : (m : Res Prefix) (b : List ℕ) {a : PrefixStep} {w : List ℕ} → a ≡ prefix_step m → w ≡ prefix_left m → (h : HeaderWords)
+body-held : (m : Res Prefix) (b : List ℕ) {a : Read PrefixShort} {w : List ℕ} → a ≡ prefix_step m → w ≡ prefix_left m → (h : HeaderWords)
     → (body_short a ≡ short_answer (prefix_answer m)) × Held (body_short a) (prefix_answer m) (record { header = h; base = b }) (record { header = h; base = w })
 unfolding prefix_step leaves short_answer words_after only
 body-held (got p e) b k q h = rw k (refl, rw q)
 body-held (no r) b k q h = rw k (refl, tt)
 
 module _ {o : UnitOut} {left : List ℕ} where
-  pub body-taken : (kind : PrefixKind) (s : Bits) → o ≡ record { read = prefix_bits kind s; left = left } → (b : List ℕ) {a : PrefixStep} {r : ShortAnswer} {w : List ℕ}
+  pub body-taken : (kind : PrefixKind) (s : Bits) → o ≡ record { read = prefix_bits kind s; left = left } → (b : List ℕ) {a : Read PrefixShort} {r : ShortAnswer} {w : List ℕ}
       → a ≡ prefix_step ((prefix kind).read s 0) → w ≡ prefix_left ((prefix kind).read s 0) → r ≡ body_short a
       → (h : HeaderWords) → Taken o r left (record { header = h; base = b }) (record { header = h; base = w })
   unfolding prefix_bits
@@ -67,17 +67,17 @@ module _ {o : UnitOut} {left : List ℕ} where
 
   -- ---- the body of a parameter set
 
-  pub sequence-taken : (s : Bits) → o ≡ record { read = sequence_bits s; left = left } → (a : SequenceSetStep) {r : ShortAnswer} → as_sequence_set a ≡ sequence_set s 0
+  pub sequence-taken : (s : Bits) → o ≡ record { read = sequence_bits s; left = left } → (a : Read SequenceSet) {r : ShortAnswer} → as_read a ≡ sequence_set s 0
       → r ≡ sequence_short a → (w : Lent) → Taken o r left w w
   unfolding sequence_bits short_answer words_after only
-  sequence-taken s e (SequenceSetStep.Got v c) p k w = rw (e, k, ← p) (record { answered = refl; left = refl; held = refl })
-  sequence-taken s e (SequenceSetStep.Refused r) p k w = rw (e, k, ← p) (record { answered = refl; left = refl; held = tt })
+  sequence-taken s e (Ok (v, c)) p k w = rw (e, k, ← p) (record { answered = refl; left = refl; held = refl })
+  sequence-taken s e (Err r) p k w = rw (e, k, ← p) (record { answered = refl; left = refl; held = tt })
 
-  pub picture-taken : (s : Bits) → o ≡ record { read = picture_bits s; left = left } → (a : PictureSetStep) {r : ShortAnswer} → as_picture_set a ≡ picture_set s 0
+  pub picture-taken : (s : Bits) → o ≡ record { read = picture_bits s; left = left } → (a : Read PictureSet) {r : ShortAnswer} → as_read a ≡ picture_set s 0
       → r ≡ picture_short a → (w : Lent) → Taken o r left w w
   unfolding picture_bits short_answer words_after only
-  picture-taken s e (PictureSetStep.Got v c) p k w = rw (e, k, ← p) (record { answered = refl; left = refl; held = refl })
-  picture-taken s e (PictureSetStep.Refused r) p k w = rw (e, k, ← p) (record { answered = refl; left = refl; held = tt })
+  picture-taken s e (Ok (v, c)) p k w = rw (e, k, ← p) (record { answered = refl; left = refl; held = refl })
+  picture-taken s e (Err r) p k w = rw (e, k, ← p) (record { answered = refl; left = refl; held = tt })
 
   -- ---- no body
 

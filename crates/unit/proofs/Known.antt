@@ -16,10 +16,10 @@ use Rattle.unit.specs.Begin.{begun}
 use Rattle.unit.specs.Unit.{in_body, untouched, after_begin, unit_read}
 use Rattle.unit.specs.declared.answer.UnitAnswer.{UnitAnswer}
 use Rattle.unit.specs.declared.head.UnitHead.{UnitHead}
-use Rattle.unit.specs.declared.head.HeadRead.{HeadRead}
 use Rattle.unit.specs.Head.{not_its_head, head_of, same_head, by_head, body_read}
 use Rattle.unit.specs.Known.{in_known, after_known, unit_known, body_known}
 use Rattle.unit.proofs.Pair.{own-head, begun-refused}
+use Rattle.std.specs.Prelude.{Ok, Err}
 
 module _ (known : ℕ) (unit scratch : List ℕ) (n : NoEsc unit 0 known) where
   in-same : (reads : Bits → UnitRead) (from : ℕ) → in_known known reads unit from scratch ≡ in_body reads unit from scratch
@@ -53,10 +53,10 @@ module _ (known : ℕ) (t : Table) (unit scratch : List ℕ) where
   unfolding body_known
   known-other h e = rw e
 
-  pub known-given : {h : UnitHead} → head_of unit ≡ HeadRead.Got h → body_known known t h unit scratch ≡ unit_known known t unit scratch
+  pub known-given : {h : UnitHead} → head_of unit ≡ Ok h → body_known known t h unit scratch ≡ unit_known known t unit scratch
   known-given {h} q = known-own h (own-head unit q)
 
-  pub known-refused : {r : Refusal} → head_of unit ≡ HeadRead.Refused r → unit_known known t unit scratch ≡ untouched (UnitAnswer.Refused r) scratch
+  pub known-refused : {r : Refusal} → head_of unit ≡ Err r → unit_known known t unit scratch ≡ untouched (UnitAnswer.Refused r) scratch
   unfolding unit_known
   known-refused q = rw (begun-refused unit q)
 

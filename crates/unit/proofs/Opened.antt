@@ -13,7 +13,6 @@ use Rattle.bits.specs.Refusals.{refusal, buffer_too_short, limit}
 use Rattle.bits.specs.declared.refusals.Refusal.{Refusal}
 use Rattle.bits.specs.Bits.{Bits, reach, bits_of}
 use Rattle.bits.proofs.Slices.{bits-reach}
-use Rattle.escape.specs.declared.escape.Body.{Body}
 use Rattle.escape.specs.Body.{start_with}
 use Rattle.escape.specs.Known.{known_body, unescaped_known}
 use Rattle.escape.proofs.Bodies.{front, same-room, known-short, known-done}
@@ -22,6 +21,7 @@ use Rattle.unit.specs.declared.answer.UnitAnswer.{UnitAnswer}
 use Rattle.unit.specs.declared.answer.UnitRead.{UnitRead}
 use Rattle.unit.specs.Unit.{untouched}
 use Rattle.unit.specs.Known.{in_known}
+use Rattle.std.specs.Prelude.{Ok, Err}
 
 -- what is within the limit has bits with a place
 within-reach : (n : ℕ) → n ≤ limit → n ≤ reach
@@ -36,7 +36,7 @@ module _ (unit : List ℕ) (from known : ℕ) (scratch z : List ℕ) (small : le
   short = refusal buffer_too_short (pos (length unit))
 
   -- the part that was written lies in scratch
-  pub written : {n : ℕ} → Body.Of n ≡ (unescaped_known unit from known scratch).answer → n ≤ length z
+  pub written : {n : ℕ} → Ok n ≡ (unescaped_known unit from known scratch).answer → n ≤ length z
   written {n} a = go (dec_le (length unit) (length scratch))
     where
       go : Dec (length unit ≤ length scratch) → n ≤ length z
@@ -46,12 +46,12 @@ module _ (unit : List ℕ) (from known : ℕ) (scratch z : List ℕ) (small : le
           let s = known-length unit from known in
           omega (arith, ap length l, same-room B scratch (omega arith))
       go (no h) =
-          let e : Body.Of n ≡ Body.Refused short = rw (known-short unit from known scratch small (omega arith)) at a in
+          let e : Ok n ≡ Err short = rw (known-short unit from known scratch small (omega arith)) at a in
           let q : ◌≡◌ {A = ℕ} 0 1 = cc in
           omega arith
 
   -- its bits are read, and scratch is as it was left
-  pub opened : {n : ℕ} → Body.Of n ≡ (unescaped_known unit from known scratch).answer → (reads : Bits → UnitRead)
+  pub opened : {n : ℕ} → Ok n ≡ (unescaped_known unit from known scratch).answer → (reads : Bits → UnitRead)
       → in_known known reads unit from scratch ≡ record { read = reads (bits_of (take n z)); left = z }
   unfolding in_known
   opened {n} a reads = go (dec_le (length unit) (length scratch))
@@ -63,19 +63,19 @@ module _ (unit : List ℕ) (from known : ℕ) (scratch z : List ℕ) (small : le
           let s = known-length unit from known in
           rw (le-leb (length unit) (length scratch) h, l, e, front B scratch, bits-reach B (within-reach _ (omega arith)))
       go (no h) =
-          let e : Body.Of n ≡ Body.Refused short = rw (known-short unit from known scratch small (omega arith)) at a in
+          let e : Ok n ≡ Err short = rw (known-short unit from known scratch small (omega arith)) at a in
           let q : ◌≡◌ {A = ℕ} 0 1 = cc in
           absurd (omega arith)
 
   -- a refusal is passed on: it is 26
-  pub closed : {r : Refusal} → Body.Refused r ≡ (unescaped_known unit from known scratch).answer → (reads : Bits → UnitRead)
+  pub closed : {r : Refusal} → Err r ≡ (unescaped_known unit from known scratch).answer → (reads : Bits → UnitRead)
       → in_known known reads unit from scratch ≡ untouched (UnitAnswer.Refused r) z
   unfolding in_known
   closed {r} a reads = go (dec_le (length unit) (length scratch))
     where
       go : Dec (length unit ≤ length scratch) → in_known known reads unit from scratch ≡ untouched (UnitAnswer.Refused r) z
       go (yes h) =
-          let e : Body.Refused r ≡ Body.Of (length B) = rw (known-done unit from known scratch small h) at a in
+          let e : Err r ≡ Ok (length B) = rw (known-done unit from known scratch small h) at a in
           let q : ◌≡◌ {A = ℕ} 0 1 = cc in
           absurd (omega arith)
       go (no h) =

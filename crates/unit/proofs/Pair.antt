@@ -12,18 +12,17 @@ use Rattle.bits.specs.Refusals.{refusal, limit}
 use Rattle.bits.specs.declared.refusals.Refusal.{Refusal}
 use Rattle.bits.proofs.Results.{cases}
 use Rattle.nal.specs.declared.header.NalHeader.{NalHeader}
-use Rattle.nal.specs.declared.header.NalHeaderRead.{NalHeaderRead}
-use Rattle.nal.specs.declared.extension.ExtensionRead.{ExtensionRead}
 use Rattle.nal.specs.Header.{header_of}
 use Rattle.nal.specs.Extension.{extension_of}
 use Rattle.table.specs.declared.table.Table.{Table}
 use Rattle.unit.specs.declared.answer.UnitAnswer.{UnitAnswer}
 use Rattle.unit.specs.declared.head.UnitHead.{UnitHead}
-use Rattle.unit.specs.declared.head.HeadRead.{HeadRead}
 use Rattle.unit.specs.declared.begin.Begun.{Begun}
 use Rattle.unit.specs.Begin.{type_in, is_plain, has_extension, with_extension, typed, with_header, begun}
 use Rattle.unit.specs.Unit.{untouched, unit_read}
 use Rattle.unit.specs.Head.{not_its_head, head_extended, head_typed, head_first, head_of, equal, same_head, body_read, in_turn}
+use Rattle.std.specs.Prelude.{Result, Ok, Err}
+use Rattle.nal.specs.declared.extension.NalHeaderExtension.{NalHeaderExtension}
 
 -- types 1 and 5 have no extension
 none-plain : (t : ℕ) → is_plain t ≡ true → has_extension t ≡ false
@@ -41,17 +40,17 @@ equal-same h =
 -- ---- a refused head is the unit's refusal
 
 module _ (unit : List ℕ) {r : Refusal} where
-  never : {h : UnitHead} {b : Begun} → HeadRead.Got h ≡ HeadRead.Refused r → b ≡ Begun.Refused r
+  never : {h : UnitHead} {b : Begun} → ◌≡◌ {A = Result UnitHead Refusal} (Ok h) (Err r) → b ≡ Begun.Refused r
   never q = let z : ◌≡◌ {A = ℕ} 0 1 = cc in absurd (omega arith)
 
-  passed : {d : Refusal} → HeadRead.Refused d ≡ HeadRead.Refused r → Begun.Refused d ≡ Begun.Refused r
+  passed : {d : Refusal} → ◌≡◌ {A = Result UnitHead Refusal} (Err d) (Err r) → Begun.Refused d ≡ Begun.Refused r
   passed q = cc
 
-  extended-refused : (h : NalHeader) (x : ExtensionRead) → head_extended unit h x ≡ HeadRead.Refused r → with_extension h x ≡ Begun.Refused r
-  extended-refused h (ExtensionRead.Got e) q = never q
-  extended-refused h (ExtensionRead.Refused d) q = passed q
+  extended-refused : (h : NalHeader) (x : Result NalHeaderExtension Refusal) → head_extended unit h x ≡ Err r → with_extension h x ≡ Begun.Refused r
+  extended-refused h (Ok e) q = never q
+  extended-refused h (Err d) q = passed q
 
-  typed-refused : (h : NalHeader) → head_typed unit h ≡ HeadRead.Refused r → typed unit h ≡ Begun.Refused r
+  typed-refused : (h : NalHeader) → head_typed unit h ≡ Err r → typed unit h ≡ Begun.Refused r
   unfolding head_typed typed
   typed-refused h q =
       cases (is_plain (type_in h))
@@ -62,11 +61,11 @@ module _ (unit : List ℕ) {r : Refusal} where
       (λ j. rw j (extended-refused h (extension_of unit) (rw j at q)))
       (λ j. never (rw j at q))))
 
-  first-refused : (x : NalHeaderRead) → head_first unit x ≡ HeadRead.Refused r → with_header unit x ≡ Begun.Refused r
-  first-refused (NalHeaderRead.Got h) q = typed-refused h q
-  first-refused (NalHeaderRead.Refused d) q = passed q
+  first-refused : (x : Result NalHeader Refusal) → head_first unit x ≡ Err r → with_header unit x ≡ Begun.Refused r
+  first-refused (Ok h) q = typed-refused h q
+  first-refused (Err d) q = passed q
 
-  pub begun-refused : head_of unit ≡ HeadRead.Refused r → begun unit ≡ Begun.Refused r
+  pub begun-refused : head_of unit ≡ Err r → begun unit ≡ Begun.Refused r
   unfolding head_of begun
   begun-refused q =
       cases (leb (length unit) limit)
@@ -75,11 +74,11 @@ module _ (unit : List ℕ) {r : Refusal} where
 
 -- ---- the pair
 
-pub own-head : (unit : List ℕ) {h : UnitHead} → head_of unit ≡ HeadRead.Got h → same_head h (head_of unit) ≡ true
+pub own-head : (unit : List ℕ) {h : UnitHead} → head_of unit ≡ Ok h → same_head h (head_of unit) ≡ true
 own-head unit {h} q = rw q (equal-same h)
 
 module _ (t : Table) (unit scratch : List ℕ) where
-  pub head-refused : {r : Refusal} → head_of unit ≡ HeadRead.Refused r → unit_read t unit scratch ≡ untouched (UnitAnswer.Refused r) scratch
+  pub head-refused : {r : Refusal} → head_of unit ≡ Err r → unit_read t unit scratch ≡ untouched (UnitAnswer.Refused r) scratch
   unfolding unit_read
   head-refused q = rw (begun-refused unit q)
 
@@ -92,12 +91,12 @@ module _ (t : Table) (unit scratch : List ℕ) where
   unfolding body_read
   body-other h e = rw e
 
-  pub head-given : {h : UnitHead} → head_of unit ≡ HeadRead.Got h → body_read t h unit scratch ≡ unit_read t unit scratch
+  pub head-given : {h : UnitHead} → head_of unit ≡ Ok h → body_read t h unit scratch ≡ unit_read t unit scratch
   head-given {h} q = body_own h (own-head unit q)
 
   pub pair : unit_read t unit scratch ≡ in_turn t unit scratch (head_of unit)
   pair = go (head_of unit) refl
     where
-      go : (x : HeadRead) → head_of unit ≡ x → unit_read t unit scratch ≡ in_turn t unit scratch x
-      go (HeadRead.Got h) q = sym (head-given q)
-      go (HeadRead.Refused r) q = head-refused q
+      go : (x : Result UnitHead Refusal) → head_of unit ≡ x → unit_read t unit scratch ≡ in_turn t unit scratch x
+      go (Ok h) q = sym (head-given q)
+      go (Err r) q = head-refused q

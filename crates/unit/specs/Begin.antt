@@ -2,9 +2,7 @@
 use Rattle.std.specs.Prelude.{ℕ, ◌+◌, ◌*◌, ◌%◌, List, Bool, false, not, ◌||◌, leb, eqb, pos, length}
 use Rattle.bits.specs.Refusals.{pick, refusal, too_large, limit}
 use Rattle.nal.specs.declared.header.NalHeader.{NalHeader}
-use Rattle.nal.specs.declared.header.NalHeaderRead.{NalHeaderRead}
 use Rattle.nal.specs.declared.extension.NalHeaderExtension.{NalHeaderExtension}
-use Rattle.nal.specs.declared.extension.ExtensionRead.{ExtensionRead}
 use Rattle.nal.specs.Header.{nal_ref_idc, nal_unit_type, header_of}
 use Rattle.nal.specs.UnitType.{id_of}
 use Rattle.nal.specs.Extension.{extension_from, extension_of, idr_flag, use_ref_base_pic_flag}
@@ -12,6 +10,8 @@ use Rattle.syntax.specs.declared.context.PrefixKind.{PrefixKind}
 use Rattle.header.specs.Kinds.{kind_of}
 use Rattle.unit.specs.declared.begin.Begun.{Begun}
 use Rattle.unit.specs.declared.head.UnitHead.{UnitHead}
+use Rattle.std.specs.Prelude.{Result, Ok, Err}
+use Rattle.bits.specs.declared.refusals.Refusal.{Refusal}
 
 -- what stands for the extension of a unit that has none; types 1 and 5 make no use of it
 abbrev pub absent_extension : NalHeaderExtension
@@ -37,9 +37,9 @@ unfoldable pub extended : NalHeader → NalHeaderExtension → Begun
 extended h e = pick (eqb (type_in h) 14) (Begun.«Prefix» (prefix_kind h e)) (Begun.Slice (kind_of h e) 4)
 
 -- 4, passed on, or the extension
-abbrev pub with_extension : NalHeader → ExtensionRead → Begun
-with_extension h (ExtensionRead.Got e) = extended h e
-with_extension h (ExtensionRead.Refused r) = Begun.Refused r
+abbrev pub with_extension : NalHeader → Result NalHeaderExtension Refusal → Begun
+with_extension h (Ok e) = extended h e
+with_extension h (Err r) = Begun.Refused r
 
 -- parameter sets, types 7 and 8, and units of other types
 abbrev pub without_extension : ℕ → Begun
@@ -54,9 +54,9 @@ unfoldable pub typed : List ℕ → NalHeader → Begun
 typed unit h = by_type h (with_extension h (extension_of unit))
 
 -- 1 or 2, passed on, or the first byte
-abbrev pub with_header : List ℕ → NalHeaderRead → Begun
-with_header unit (NalHeaderRead.Got h) = typed unit h
-with_header unit (NalHeaderRead.Refused r) = Begun.Refused r
+abbrev pub with_header : List ℕ → Result NalHeader Refusal → Begun
+with_header unit (Ok h) = typed unit h
+with_header unit (Err r) = Begun.Refused r
 
 -- 27 first
 unfoldable pub begun : List ℕ → Begun

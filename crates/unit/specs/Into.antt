@@ -2,18 +2,21 @@
 use Rattle.std.specs.Prelude.{ℕ, ◌≡◌, List, ℤ, replicate}
 use Rattle.std.proofs.lemmas.List.Edits.{sets}
 use denote.Triple.Both.{Both}
-use Rattle.fields.specs.declared.step.End.{End}
 use Rattle.syntax.specs.Absent.{no_prefix}
 use Rattle.lists.specs.declared.list_words.PrefixShort.{PrefixShort}
-use Rattle.lists.specs.declared.list_words.PrefixStep.{PrefixStep}
 use Rattle.lists.specs.ListsLent.{list_words, prefix_short}
-use Rattle.parameter_sets.specs.declared.sequence.SequenceSetStep.{SequenceSetStep}
-use Rattle.parameter_sets.specs.declared.picture.PictureSetStep.{PictureSetStep}
-use Rattle.header.specs.Short.{HeaderWords, Array, header_words, emptied, header_in, zeros}
+use Rattle.header.specs.Short.{HeaderWords, Array, header_words, words_in, SameArrays, emptied, header_in, zeros}
 use Rattle.unit.specs.declared.answer.UnitAnswer.{UnitAnswer}
 use Rattle.unit.specs.declared.answer.UnitRead.{UnitRead}
 use Rattle.unit.specs.declared.into.ShortAnswer.{ShortAnswer}
+use Rattle.unit.specs.declared.into.AllWords.{AllWords}
 use Rattle.unit.specs.Unit.{UnitOut}
+use Rattle.std.specs.Prelude.{Result, Ok, Err}
+use Rattle.bits.specs.Answers.{Read}
+use Rattle.bits.specs.declared.read.Cursor.{Cursor}
+use Rattle.bits.specs.declared.refusals.Refusal.{Refusal}
+use Rattle.parameter_sets.specs.declared.sequence.SequenceSet.{SequenceSet}
+use Rattle.parameter_sets.specs.declared.picture.PictureSet.{PictureSet}
 
 -- the answer; a slice's header stands in the words, and so does a prefix's list
 abbrev pub short : UnitAnswer → UnitRead → ShortAnswer
@@ -60,6 +63,12 @@ lent_words numbers signed l0 l1 marking w0 w1 base =
     let h = header_words numbers signed l0 l1 marking w0 w1 in
     record { entry = record { header = h.entry; base = base.entry.now }; exit = record { header = h.exit; base = base.exit.now } }
 
+abbrev pub lent_in : AllWords → Lent
+lent_in w = record { header = words_in w.header; base = w.base.now }
+
+abbrev pub SameLent : AllWords → AllWords → Type 0
+SameLent a b = SameArrays a.header b.header × (a.base.ghost_name ≡ b.base.ghost_name)
+
 -- what is left in words that were `w` before: a slice's header over emptied words, a prefix's list over zeros, zeros beside a refusal; all other words are as before
 abbrev pub after : UnitAnswer → UnitRead → Lent → Lent
 after (UnitAnswer.Slice n) u w = record { header = header_in u.header (emptied w.header); base = w.base }
@@ -80,21 +89,21 @@ pub record ReadInto (o : UnitOut) (answer : ShortAnswer) (scratch : List ℕ) (b
 
 -- ---- private contracts
 
-abbrev pub slice_short : End → ShortAnswer
-slice_short (End.At c) = ShortAnswer.Slice c.at
-slice_short (End.Refused r) = ShortAnswer.Refused r
+abbrev pub slice_short : Result Cursor Refusal → ShortAnswer
+slice_short (Ok c) = ShortAnswer.Slice c.at
+slice_short (Err r) = ShortAnswer.Refused r
 
-abbrev pub body_short : PrefixStep → ShortAnswer
-body_short (PrefixStep.Got p c) = ShortAnswer.«Prefix» p
-body_short (PrefixStep.Refused r) = ShortAnswer.Refused r
+abbrev pub body_short : Read PrefixShort → ShortAnswer
+body_short (Ok (p, c)) = ShortAnswer.«Prefix» p
+body_short (Err r) = ShortAnswer.Refused r
 
-abbrev pub sequence_short : SequenceSetStep → ShortAnswer
-sequence_short (SequenceSetStep.Got v c) = ShortAnswer.Sequence v
-sequence_short (SequenceSetStep.Refused r) = ShortAnswer.Refused r
+abbrev pub sequence_short : Read SequenceSet → ShortAnswer
+sequence_short (Ok (v, c)) = ShortAnswer.Sequence v
+sequence_short (Err r) = ShortAnswer.Refused r
 
-abbrev pub picture_short : PictureSetStep → ShortAnswer
-picture_short (PictureSetStep.Got v c) = ShortAnswer.Picture v
-picture_short (PictureSetStep.Refused r) = ShortAnswer.Refused r
+abbrev pub picture_short : Read PictureSet → ShortAnswer
+picture_short (Ok (v, c)) = ShortAnswer.Picture v
+picture_short (Err r) = ShortAnswer.Refused r
 
 -- the words, but beside a refusal, of which nothing is said
 abbrev pub Held : ShortAnswer → UnitRead → (before words : Lent) → Type 0

@@ -9,8 +9,9 @@ use bits::refusals::Refusal;
 use lists::list_words::PrefixShort;
 use parameter_sets::picture::PictureSet;
 use parameter_sets::sequence::SequenceSet;
-use syntax::marks::MarkedFlag;
+use syntax::marks::Marked;
 use syntax::record::{Prefix, SliceHeader};
+use table::sets::{Picture, Sequence};
 
 #[derive(Clone, Copy)]
 pub enum UnitAnswer {
@@ -50,7 +51,7 @@ pub(crate) fn long_answer(a: ShortAnswer) -> UnitAnswer
 pub fn no_prefix() -> PrefixShort
     ensures { result ≡ prefix_short no_prefix }
 {
-    let absent = MarkedFlag {
+    let absent = Marked {
         there: false,
         value: false,
     };

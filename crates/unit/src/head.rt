@@ -6,7 +6,7 @@ ghost use Rattle.unit.specs.Head.{head_extended, head_typed, head_of, equal, sam
 use crate::begin::has_extension;
 use bits::refusals::{LIMIT, NO_EXTENSION, Refusal, TOO_LARGE, refuse};
 use fields::conditions::both;
-use nal::header::{NalHeader, NalHeaderRead, header_of};
+use nal::header::{NalHeader, header_of};
 
 #[repr(C)]
 #[derive(Clone, Copy)]
@@ -20,22 +20,16 @@ pub struct UnitHead {
     pub b3: u8,
 }
 
-#[derive(Clone, Copy)]
-pub enum HeadRead {
-    Refused(Refusal),
-    Got(UnitHead),
-}
-
-fn head_extended(unit: &[u8], h: NalHeader) -> HeadRead
+fn head_extended(unit: &[u8], h: NalHeader) -> Result<UnitHead, Refusal>
     ensures { result ≡ head_extended unit.now h (extension_of unit.now) }
 {
     if unit.len() < 4 {
-        return HeadRead::Refused(refuse(NO_EXTENSION, 0));
+        return Err(refuse(NO_EXTENSION, 0));
     }
     let b1 = unit[1];
     let b2 = unit[2];
     let b3 = unit[3];
-    HeadRead::Got(UnitHead {
+    Ok(UnitHead {
         nal_unit_type: h.type_id(),
         nal_ref_idc: h.nal_ref_idc(),
         b1,
@@ -44,13 +38,13 @@ fn head_extended(unit: &[u8], h: NalHeader) -> HeadRead
     })
 }
 
-fn head_typed(unit: &[u8], h: NalHeader) -> HeadRead
+fn head_typed(unit: &[u8], h: NalHeader) -> Result<UnitHead, Refusal>
     ensures { result ≡ head_typed unit.now h }
 {
     if has_extension(h.type_id()) {
         return head_extended(unit, h);
     }
-    HeadRead::Got(UnitHead {
+    Ok(UnitHead {
         nal_unit_type: h.type_id(),
         nal_ref_idc: h.nal_ref_idc(),
         b1: 0,
@@ -60,15 +54,15 @@ fn head_typed(unit: &[u8], h: NalHeader) -> HeadRead
 }
 
 // 27, 1, 2 and 4, in this order, or the head.
-pub fn head(unit: &[u8]) -> HeadRead
+pub fn head(unit: &[u8]) -> Result<UnitHead, Refusal>
     ensures { result ≡ head_of unit.now }
 {
     if LIMIT < unit.len() {
-        return HeadRead::Refused(refuse(TOO_LARGE, 0));
+        return Err(refuse(TOO_LARGE, 0));
     }
     match header_of(unit) {
-        NalHeaderRead::Got(h) => head_typed(unit, h),
-        NalHeaderRead::Refused(r) => HeadRead::Refused(r),
+        Ok(h) => head_typed(unit, h),
+        Err(r) => Err(r),
     }
 }
 
@@ -88,7 +82,7 @@ pub fn is_head_of(h: UnitHead, unit: &[u8]) -> bool
     ensures { result ≡ same_head h (head_of unit.now) }
 {
     match head(unit) {
-        HeadRead::Got(g) => equal(h, g),
-        HeadRead::Refused(_) => false,
+        Ok(g) => equal(h, g),
+        Err(_) => false,
     }
 }

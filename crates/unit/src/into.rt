@@ -6,20 +6,27 @@ ghost use Rattle.unit.specs.Unit.{slice_bits, prefix_bits, sequence_bits, pictur
 ghost use Rattle.unit.specs.Known.{in_known, unit_known, body_known};
 ghost use Rattle.unit.specs.Begin.{begun, begun_by};
 ghost use Rattle.unit.specs.Head.{body_read};
-ghost use Rattle.header.specs.Short.{HeaderWords, header_words};
-ghost use Rattle.unit.specs.Into.{Lent, lent_words, blank, slice_short, body_short, sequence_short, picture_short, Taken, ReadInto};
+ghost use Rattle.header.specs.Short.{HeaderWords, words_in, SameArrays};
+ghost use Rattle.unit.specs.Into.{Lent, lent_in, SameLent, blank, slice_short, body_short, sequence_short, picture_short, Taken, ReadInto};
 
 use crate::begin::{Begun, begun_by};
 use crate::head::{UnitHead, is_head_of};
-use bits::read::Cursor;
+use bits::read::{Cursor, Read};
 use bits::refusals::{NOT_ITS_HEAD, Refusal, refuse};
-use escape::escape::{Body, unescape_known};
-use fields::step::End;
-use header::slice::{clear_header, read_header_into};
-use lists::list_words::{PrefixShort, PrefixStep, clear_list, prefix_into};
-use parameter_sets::picture::{PictureSet, PictureSetStep, picture_set};
-use parameter_sets::sequence::{SequenceSet, SequenceSetStep, sequence_set};
+use escape::escape::unescape_known;
+use header::slice::{Words, read_header_into};
+use lists::list_words::{PrefixShort, clear_list, prefix_into};
+use parameter_sets::picture::{PictureSet, picture_set};
+use parameter_sets::sequence::{SequenceSet, sequence_set};
 use syntax::context::{PrefixKind, UnitKind};
+use table::sets::{Picture, Sequence};
+
+// All words that a caller lends.
+#[derive(Drop)]
+pub struct AllWords<'a> {
+    pub header: Words<'a>,
+    pub base: &'a mut [u32; 198],
+}
 
 #[derive(Clone, Copy)]
 pub enum ShortAnswer {
@@ -34,39 +41,39 @@ pub enum ShortAnswer {
     Refused(Refusal),
 }
 
-fn slice_short(a: End) -> ShortAnswer
+fn slice_short(a: Result<Cursor, Refusal>) -> ShortAnswer
     ensures { result ≡ slice_short a }
 {
     match a {
-        End::At(c) => ShortAnswer::Slice(c.at),
-        End::Refused(r) => ShortAnswer::Refused(r),
+        Ok(c) => ShortAnswer::Slice(c.at),
+        Err(r) => ShortAnswer::Refused(r),
     }
 }
 
-fn body_short(a: PrefixStep) -> ShortAnswer
+fn body_short(a: Read<PrefixShort>) -> ShortAnswer
     ensures { result ≡ body_short a }
 {
     match a {
-        PrefixStep::Got(p, _) => ShortAnswer::Prefix(p),
-        PrefixStep::Refused(r) => ShortAnswer::Refused(r),
+        Ok((p, _)) => ShortAnswer::Prefix(p),
+        Err(r) => ShortAnswer::Refused(r),
     }
 }
 
-fn sequence_short(a: SequenceSetStep) -> ShortAnswer
+fn sequence_short(a: Read<SequenceSet>) -> ShortAnswer
     ensures { result ≡ sequence_short a }
 {
     match a {
-        SequenceSetStep::Got(v, _) => ShortAnswer::Sequence(v),
-        SequenceSetStep::Refused(r) => ShortAnswer::Refused(r),
+        Ok((v, _)) => ShortAnswer::Sequence(v),
+        Err(r) => ShortAnswer::Refused(r),
     }
 }
 
-fn picture_short(a: PictureSetStep) -> ShortAnswer
+fn picture_short(a: Read<PictureSet>) -> ShortAnswer
     ensures { result ≡ picture_short a }
 {
     match a {
-        PictureSetStep::Got(v, _) => ShortAnswer::Picture(v),
-        PictureSetStep::Refused(r) => ShortAnswer::Refused(r),
+        Ok((v, _)) => ShortAnswer::Picture(v),
+        Err(r) => ShortAnswer::Refused(r),
     }
 }
 
@@ -79,32 +86,15 @@ fn slice_into<'a>(
     scratch: &mut [u8],
     kind: UnitKind,
     from: usize,
-    numbers: &mut [u32; 57],
-    signed: &mut [i32; 7],
-    l0: &mut [u32; 198],
-    l1: &mut [u32; 198],
-    marking: &mut [u32; 198],
-    w0: &mut [i32; 256],
-    w1: &mut [i32; 256],
+    w: &mut Words<'_>,
 ) -> ShortAnswer
     requires { length unit.now ≤ limit }
-    ensures { (b : List ℕ) → Taken (in_known known (slice_bits (table_of sequences.now pictures.now) kind) unit.now from scratch.old) result scratch.new (record { header = (header_words numbers signed l0 l1 marking w0 w1).entry; base = b }) (record { header = (header_words numbers signed l0 l1 marking w0 w1).exit; base = b }) }
+    ensures taken { (b : List ℕ) → Taken (in_known known (slice_bits (table_of sequences.now pictures.now) kind) unit.now from scratch.old) result scratch.new (record { header = words_in w.old; base = b }) (record { header = words_in w.new; base = b }) }
+    ensures same { SameArrays w.old w.new }
 {
     match unescape_known(unit, from, known, scratch) {
-        Body::Of(n) => slice_short(read_header_into(
-            &scratch[..n],
-            kind,
-            sequences,
-            pictures,
-            numbers,
-            signed,
-            l0,
-            l1,
-            marking,
-            w0,
-            w1,
-        )),
-        Body::Refused(r) => ShortAnswer::Refused(r),
+        Ok(n) => slice_short(read_header_into(&scratch[..n], kind, sequences, pictures, w)),
+        Err(r) => ShortAnswer::Refused(r),
     }
 }
 
@@ -120,8 +110,8 @@ fn body_into(
     ensures { (h : HeaderWords) → Taken (in_known known (prefix_bits kind) unit.now 4 scratch.old) result scratch.new (record { header = h; base = base.old }) (record { header = h; base = base.new }) }
 {
     match unescape_known(unit, 4, known, scratch) {
-        Body::Of(n) => body_short(prefix_into(&scratch[..n], Cursor { at: 0 }, kind, base)),
-        Body::Refused(r) => ShortAnswer::Refused(r),
+        Ok(n) => body_short(prefix_into(&scratch[..n], Cursor { at: 0 }, kind, base)),
+        Err(r) => ShortAnswer::Refused(r),
     }
 }
 
@@ -131,8 +121,8 @@ fn sequence_into(unit: &[u8], known: usize, scratch: &mut [u8]) -> ShortAnswer
     ensures { (w : Lent) → Taken (in_known known sequence_bits unit.now 1 scratch.old) result scratch.new w w }
 {
     match unescape_known(unit, 1, known, scratch) {
-        Body::Of(n) => sequence_short(sequence_set(&scratch[..n], Cursor { at: 0 })),
-        Body::Refused(r) => ShortAnswer::Refused(r),
+        Ok(n) => sequence_short(sequence_set(&scratch[..n], Cursor { at: 0 })),
+        Err(r) => ShortAnswer::Refused(r),
     }
 }
 
@@ -141,8 +131,8 @@ fn picture_into(unit: &[u8], known: usize, scratch: &mut [u8]) -> ShortAnswer
     ensures { (w : Lent) → Taken (in_known known picture_bits unit.now 1 scratch.old) result scratch.new w w }
 {
     match unescape_known(unit, 1, known, scratch) {
-        Body::Of(n) => picture_short(picture_set(&scratch[..n], Cursor { at: 0 })),
-        Body::Refused(r) => ShortAnswer::Refused(r),
+        Ok(n) => picture_short(picture_set(&scratch[..n], Cursor { at: 0 })),
+        Err(r) => ShortAnswer::Refused(r),
     }
 }
 
@@ -154,24 +144,24 @@ fn take<'a>(
     unit: &[u8],
     known: usize,
     scratch: &mut [u8],
-    numbers: &mut [u32; 57],
-    signed: &mut [i32; 7],
-    l0: &mut [u32; 198],
-    l1: &mut [u32; 198],
-    marking: &mut [u32; 198],
-    w0: &mut [i32; 256],
-    w1: &mut [i32; 256],
-    base: &mut [u32; 198],
+    w: &mut AllWords<'_>,
 ) -> ShortAnswer
     requires { begun unit.now ≡ begun_by head }
-    ensures { Taken (unit_known known (table_of sequences.now pictures.now) unit.now scratch.old) result scratch.new (lent_words numbers signed l0 l1 marking w0 w1 base).entry (lent_words numbers signed l0 l1 marking w0 w1 base).exit }
+    ensures taken { Taken (unit_known known (table_of sequences.now pictures.now) unit.now scratch.old) result scratch.new (lent_in w.old) (lent_in w.new) }
+    ensures same { SameLent w.old w.new }
 {
     match begun_by(head) {
         Begun::Slice(kind, from) => slice_into(
-            sequences, pictures, unit, known, scratch, kind, from, numbers, signed, l0, l1,
-            marking, w0, w1,
+            sequences,
+            pictures,
+            unit,
+            known,
+            scratch,
+            kind,
+            from,
+            &mut w.header,
         ),
-        Begun::Prefix(kind) => body_into(unit, known, scratch, kind, base),
+        Begun::Prefix(kind) => body_into(unit, known, scratch, kind, w.base),
         Begun::SequenceSet => sequence_into(unit, known, scratch),
         Begun::PictureSet => picture_into(unit, known, scratch),
         Begun::Other(id) => ShortAnswer::Other(id),
@@ -179,21 +169,15 @@ fn take<'a>(
     }
 }
 
-// All words become zeros, as beside a refusal.
-pub fn clear_words(
-    numbers: &mut [u32; 57],
-    signed: &mut [i32; 7],
-    l0: &mut [u32; 198],
-    l1: &mut [u32; 198],
-    marking: &mut [u32; 198],
-    w0: &mut [i32; 256],
-    w1: &mut [i32; 256],
-    base: &mut [u32; 198],
-)
-    ensures { (lent_words numbers signed l0 l1 marking w0 w1 base).exit ≡ blank }
-{
-    clear_header(numbers, signed, l0, l1, marking, w0, w1);
-    clear_list(base);
+impl AllWords<'_> {
+    // All words become zeros, as beside a refusal.
+    pub fn clear(&mut self)
+        ensures words { lent_in self.new ≡ blank }
+        ensures same { SameLent self.old self.new }
+    {
+        self.header.clear();
+        clear_list(self.base);
+    }
 }
 
 // A unit whose head has been compared, with zeros in all words beside a refusal.
@@ -204,29 +188,20 @@ fn read_into<'a>(
     unit: &[u8],
     known: usize,
     scratch: &mut [u8],
-    numbers: &mut [u32; 57],
-    signed: &mut [i32; 7],
-    l0: &mut [u32; 198],
-    l1: &mut [u32; 198],
-    marking: &mut [u32; 198],
-    w0: &mut [i32; 256],
-    w1: &mut [i32; 256],
-    base: &mut [u32; 198],
+    w: &mut AllWords<'_>,
 ) -> ShortAnswer
     requires { begun unit.now ≡ begun_by head }
-    ensures { ReadInto (unit_known known (table_of sequences.now pictures.now) unit.now scratch.old) result scratch.new (lent_words numbers signed l0 l1 marking w0 w1 base).entry (lent_words numbers signed l0 l1 marking w0 w1 base).exit }
+    ensures read { ReadInto (unit_known known (table_of sequences.now pictures.now) unit.now scratch.old) result scratch.new (lent_in w.old) (lent_in w.new) }
+    ensures same { SameLent w.old w.new }
 {
-    match take(
-        head, sequences, pictures, unit, known, scratch, numbers, signed, l0, l1, marking, w0, w1,
-        base,
-    ) {
+    match take(head, sequences, pictures, unit, known, scratch, w) {
         ShortAnswer::Slice(n) => ShortAnswer::Slice(n),
         ShortAnswer::Prefix(p) => ShortAnswer::Prefix(p),
         ShortAnswer::Sequence(v) => ShortAnswer::Sequence(v),
         ShortAnswer::Picture(v) => ShortAnswer::Picture(v),
         ShortAnswer::Other(id) => ShortAnswer::Other(id),
         ShortAnswer::Refused(r) => {
-            clear_words(numbers, signed, l0, l1, marking, w0, w1, base);
+            w.clear();
             ShortAnswer::Refused(r)
         }
     }
@@ -243,25 +218,16 @@ pub fn read_known_into<'a>(
     unit: &[u8],
     known: usize,
     scratch: &mut [u8],
-    numbers: &mut [u32; 57],
-    signed: &mut [i32; 7],
-    l0: &mut [u32; 198],
-    l1: &mut [u32; 198],
-    marking: &mut [u32; 198],
-    w0: &mut [i32; 256],
-    w1: &mut [i32; 256],
-    base: &mut [u32; 198],
+    w: &mut AllWords<'_>,
 ) -> ShortAnswer
-    ensures { ReadInto (body_known known (table_of sequences.now pictures.now) head unit.now scratch.old) result scratch.new (lent_words numbers signed l0 l1 marking w0 w1 base).entry (lent_words numbers signed l0 l1 marking w0 w1 base).exit }
+    ensures read { ReadInto (body_known known (table_of sequences.now pictures.now) head unit.now scratch.old) result scratch.new (lent_in w.old) (lent_in w.new) }
+    ensures same { SameLent w.old w.new }
 {
     if !is_head_of(head, unit) {
-        clear_words(numbers, signed, l0, l1, marking, w0, w1, base);
+        w.clear();
         return ShortAnswer::Refused(refuse(NOT_ITS_HEAD, 0));
     }
-    read_into(
-        head, sequences, pictures, unit, known, scratch, numbers, signed, l0, l1, marking, w0, w1,
-        base,
-    )
+    read_into(head, sequences, pictures, unit, known, scratch, w)
 }
 
 // The same where nothing is known.
@@ -271,18 +237,10 @@ pub fn read_body_into<'a>(
     pictures: &'a [u32; 2304],
     unit: &[u8],
     scratch: &mut [u8],
-    numbers: &mut [u32; 57],
-    signed: &mut [i32; 7],
-    l0: &mut [u32; 198],
-    l1: &mut [u32; 198],
-    marking: &mut [u32; 198],
-    w0: &mut [i32; 256],
-    w1: &mut [i32; 256],
-    base: &mut [u32; 198],
+    w: &mut AllWords<'_>,
 ) -> ShortAnswer
-    ensures { ReadInto (body_read (table_of sequences.now pictures.now) head unit.now scratch.old) result scratch.new (lent_words numbers signed l0 l1 marking w0 w1 base).entry (lent_words numbers signed l0 l1 marking w0 w1 base).exit }
+    ensures read { ReadInto (body_read (table_of sequences.now pictures.now) head unit.now scratch.old) result scratch.new (lent_in w.old) (lent_in w.new) }
+    ensures same { SameLent w.old w.new }
 {
-    read_known_into(
-        head, sequences, pictures, unit, 0, scratch, numbers, signed, l0, l1, marking, w0, w1, base,
-    )
+    read_known_into(head, sequences, pictures, unit, 0, scratch, w)
 }

@@ -5,7 +5,8 @@ ghost use Rattle.unit.specs.Head.{body_read};
 
 use crate::answer::{UnitRead, long_answer, prefix_in};
 use crate::head::UnitHead;
-use crate::into::read_body_into;
+use crate::into::{AllWords, read_body_into};
+use header::slice::Words;
 use record::record::{header_of, prefix_of};
 
 // The body of a unit, for whoever has its head, by the sets in a table's two arrays. Scratch is left as `read_body_into` leaves it. The words start as zeros, and are zeros again where the answer
@@ -27,24 +28,23 @@ pub fn read_body_in<'a>(
     let mut w0 = [0i32; 256];
     let mut w1 = [0i32; 256];
     let mut base = [0u32; 198];
-    let a = read_body_into(
-        head,
-        sequences,
-        pictures,
-        unit,
-        scratch,
-        &mut numbers,
-        &mut signed,
-        &mut l0,
-        &mut l1,
-        &mut marking,
-        &mut w0,
-        &mut w1,
-        &mut base,
-    );
+    let header = Words {
+        numbers: &mut numbers,
+        signed: &mut signed,
+        l0: &mut l0,
+        l1: &mut l1,
+        marking: &mut marking,
+        w0: &mut w0,
+        w1: &mut w1,
+    };
+    let mut w = AllWords {
+        header,
+        base: &mut base,
+    };
+    let a = read_body_into(head, sequences, pictures, unit, scratch, &mut w);
     UnitRead {
         answer: long_answer(a),
-        header: header_of(&numbers, &signed, &l0, &l1, &marking, &w0, &w1),
-        prefix: prefix_of(prefix_in(a), &base),
+        header: header_of(&w.header),
+        prefix: prefix_of(prefix_in(a), w.base),
     }
 }

@@ -3,6 +3,7 @@ ghost use Rattle.std.specs.Prelude.{◌≡◌, ◌+◌, ◌≤◌, length, drop}
 ghost use Rattle.walk.specs.Walk.{upto, kept, unit_at, next_unit};
 ghost use Rattle.walk.specs.Seen.{next_seen};
 
+use bits::refusals::Refusal;
 use scan::scan::{hit_at, seek};
 
 // What a search finds: a unit's first byte, its length and the place to go on from; or no unit.

@@ -2,13 +2,13 @@
 ghost use Rattle.std.specs.Prelude.{◌≡◌};
 ghost use Rattle.header.specs.Lead.{table_of};
 ghost use Rattle.unit.specs.Known.{unit_known};
-ghost use Rattle.unit.specs.Into.{long_answer, lent_words, ReadInto};
+ghost use Rattle.unit.specs.Into.{long_answer, lent_in, SameLent, ReadInto};
 ghost use Rattle.walk.specs.Walked.{table_after};
 ghost use Rattle.walk.specs.WalkedInto.{Turned};
 
 use table::words::{put_picture_in, put_sequence_in};
-use unit::head::{HeadRead, head};
-use unit::into::{ShortAnswer, clear_words, read_known_into};
+use unit::head::head;
+use unit::into::{AllWords, ShortAnswer, read_known_into};
 
 // A unit's head and then its body, for a caller who knows that no 00 00 03 begins before `known`. Scratch and words are left as `read_known_into` leaves them; beside a
 // refused head scratch is untouched, and all words are zeros.
@@ -18,24 +18,15 @@ fn read_unit<'a>(
     unit: &[u8],
     known: usize,
     scratch: &mut [u8],
-    numbers: &mut [u32; 57],
-    signed: &mut [i32; 7],
-    l0: &mut [u32; 198],
-    l1: &mut [u32; 198],
-    marking: &mut [u32; 198],
-    w0: &mut [i32; 256],
-    w1: &mut [i32; 256],
-    base: &mut [u32; 198],
+    w: &mut AllWords<'_>,
 ) -> ShortAnswer
-    ensures { ReadInto (unit_known known (table_of sequences.now pictures.now) unit.now scratch.old) result scratch.new (lent_words numbers signed l0 l1 marking w0 w1 base).entry (lent_words numbers signed l0 l1 marking w0 w1 base).exit }
+    ensures read { ReadInto (unit_known known (table_of sequences.now pictures.now) unit.now scratch.old) result scratch.new (lent_in w.old) (lent_in w.new) }
+    ensures same { SameLent w.old w.new }
 {
     match head(unit) {
-        HeadRead::Got(h) => read_known_into(
-            h, sequences, pictures, unit, known, scratch, numbers, signed, l0, l1, marking, w0, w1,
-            base,
-        ),
-        HeadRead::Refused(r) => {
-            clear_words(numbers, signed, l0, l1, marking, w0, w1, base);
+        Ok(h) => read_known_into(h, sequences, pictures, unit, known, scratch, w),
+        Err(r) => {
+            w.clear();
             ShortAnswer::Refused(r)
         }
     }
@@ -48,11 +39,11 @@ pub(crate) fn keep_set(sequences: &mut [u32; 224], pictures: &mut [u32; 2304], a
     match answer {
         ShortAnswer::Sequence(v) => {
             let s = v.sequence;
-            put_sequence_in(sequences, pictures, v.seq_parameter_set_id, s);
+            let _ = put_sequence_in(sequences, pictures, v.seq_parameter_set_id, s);
         }
         ShortAnswer::Picture(v) => {
             let p = v.picture;
-            put_picture_in(sequences, pictures, v.pic_parameter_set_id, p);
+            let _ = put_picture_in(sequences, pictures, v.pic_parameter_set_id, p);
         }
         ShortAnswer::Slice(_) => {}
         ShortAnswer::Prefix(_) => {}
@@ -68,20 +59,12 @@ pub fn body_in_turn(
     unit: &[u8],
     known: usize,
     scratch: &mut [u8],
-    numbers: &mut [u32; 57],
-    signed: &mut [i32; 7],
-    l0: &mut [u32; 198],
-    l1: &mut [u32; 198],
-    marking: &mut [u32; 198],
-    w0: &mut [i32; 256],
-    w1: &mut [i32; 256],
-    base: &mut [u32; 198],
+    w: &mut AllWords<'_>,
 ) -> ShortAnswer
-    ensures { Turned (unit_known known) (table_of sequences.old pictures.old) unit.now scratch.old result scratch.new (table_of sequences.new pictures.new) (lent_words numbers signed l0 l1 marking w0 w1 base).entry (lent_words numbers signed l0 l1 marking w0 w1 base).exit }
+    ensures turned { Turned (unit_known known) (table_of sequences.old pictures.old) unit.now scratch.old result scratch.new (table_of sequences.new pictures.new) (lent_in w.old) (lent_in w.new) }
+    ensures same { SameLent w.old w.new }
 {
-    let answer = read_unit(
-        sequences, pictures, unit, known, scratch, numbers, signed, l0, l1, marking, w0, w1, base,
-    );
+    let answer = read_unit(sequences, pictures, unit, known, scratch, w);
     keep_set(sequences, pictures, answer);
     answer
 }

@@ -2,14 +2,14 @@
 // answer says to go on, it meets every unit once.
 ghost use Rattle.std.specs.Prelude.{◌≡◌};
 ghost use Rattle.header.specs.Lead.{table_of};
-ghost use Rattle.unit.specs.Into.{lent_words};
+ghost use Rattle.unit.specs.Into.{lent_in, SameLent};
 ghost use Rattle.walk.specs.Walked.{next_step, walked};
 ghost use Rattle.walk.specs.WalkedInto.{WalkedInto};
 
 use crate::search::{Found, next_seen, next_unit};
 use crate::turn::body_in_turn;
 use bits::refusals::{LIMIT, Refusal, TOO_LARGE, refuse};
-use unit::into::ShortAnswer;
+use unit::into::{AllWords, ShortAnswer};
 
 // What a step came to: a unit's place, its length and the place to go on from; the end; or a refusal (27; in a recording framed by length also 29).
 #[derive(Clone, Copy)]
@@ -51,16 +51,10 @@ pub fn walk_into(
     recording: &[u8],
     from: usize,
     scratch: &mut [u8],
-    numbers: &mut [u32; 57],
-    signed: &mut [i32; 7],
-    l0: &mut [u32; 198],
-    l1: &mut [u32; 198],
-    marking: &mut [u32; 198],
-    w0: &mut [i32; 256],
-    w1: &mut [i32; 256],
-    base: &mut [u32; 198],
+    w: &mut AllWords<'_>,
 ) -> WalkedShort
-    ensures { WalkedInto (walked (table_of sequences.old pictures.old) recording.now from scratch.old) result scratch.new (table_of sequences.new pictures.new) (lent_words numbers signed l0 l1 marking w0 w1 base).entry (lent_words numbers signed l0 l1 marking w0 w1 base).exit }
+    ensures walked { WalkedInto (walked (table_of sequences.old pictures.old) recording.now from scratch.old) result scratch.new (table_of sequences.new pictures.new) (lent_in w.old) (lent_in w.new) }
+    ensures same { SameLent w.old w.new }
 {
     let n = recording.len();
     if LIMIT < n {
@@ -89,14 +83,7 @@ pub fn walk_into(
         &recording[place..end],
         seen.clear,
         scratch,
-        numbers,
-        signed,
-        l0,
-        l1,
-        marking,
-        w0,
-        w1,
-        base,
+        w,
     );
     WalkedShort {
         step: Step::Unit(place, length, next),

@@ -1,7 +1,6 @@
 pub mod AtMost
 pub mod Joined
 pub mod Tables
-pub mod Unique
 pub mod Entries
 pub mod Stored
 pub mod Left

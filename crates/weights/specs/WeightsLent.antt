@@ -3,9 +3,7 @@ use Rattle.std.specs.Prelude.{ℕ, ◌*◌, Bool, ℤ, pos, take, replicate}
 use mathlib.Core.List.{List, [], ◌∷◌, flat_map}
 use Rattle.std.proofs.lemmas.List.Edits.{sets}
 use Rattle.bits.specs.Refusals.{Res, got, no, pick}
-use Rattle.bits.specs.Answers.{none}
 use Rattle.bits.specs.Bits.{Bits}
-use Rattle.bits.specs.declared.refusals.Refusal.{Refusal}
 use Rattle.fmt.specs.Leaves.{ue}
 use Rattle.syntax.specs.declared.context.Context.{Context}
 use Rattle.syntax.specs.declared.record.Weight.{Weight}
@@ -17,8 +15,8 @@ use Rattle.syntax.specs.SliceHeader.{weight, weight_list}
 use Rattle.weights.specs.Counts.{at_most32}
 use Rattle.lists.specs.Begun.{after, times_begun}
 use Rattle.weights.specs.declared.weight_words.WeightsShort.{WeightsShort}
-use Rattle.weights.specs.declared.weight_words.WeightsStep.{WeightsStep}
-use Rattle.weights.specs.declared.weight_words.ListStep.{ListStep}
+use Rattle.std.specs.Prelude.{Ok, Err}
+use Rattle.bits.specs.Answers.{Read}
 
 abbrev pub flag_word : Bool → ℤ
 flag_word b = pick b (pos 1) (pos 0)
@@ -68,20 +66,12 @@ weights_short t =
       l1 = t.l1.count;
     }
 
-abbrev pub weights_step : Res PredWeightTable → WeightsStep
-weights_step (got t e) = WeightsStep.Got (weights_short t) (record { at = e })
-weights_step (no r) = WeightsStep.Refused r
-
-abbrev pub why_weights : WeightsStep → Refusal
-why_weights (WeightsStep.Got w c) = none
-why_weights (WeightsStep.Refused r) = r
+abbrev pub weights_step : Res PredWeightTable → Read WeightsShort
+weights_step (got t e) = Ok ((weights_short t), record { at = e })
+weights_step (no r) = Err r
 
 -- ---- private contracts
 
-abbrev pub list_step : Res WeightList → ListStep
-list_step (got l e) = ListStep.Got l.count (record { at = e })
-list_step (no r) = ListStep.Refused r
-
-abbrev pub why_list : ListStep → Refusal
-why_list (ListStep.Got n c) = none
-why_list (ListStep.Refused r) = r
+abbrev pub list_step : Res WeightList → Read ℕ
+list_step (got l e) = Ok (l.count, record { at = e })
+list_step (no r) = Err r

@@ -2,32 +2,20 @@
 ghost use Rattle.std.specs.Prelude.{◌≡◌};
 ghost use Rattle.bits.specs.Bits.{bits_of};
 ghost use Rattle.syntax.specs.SliceHeader.{weight};
-ghost use Rattle.weights.specs.Steps.{as_weight, why_weight, as_luma, why_luma, as_chroma, why_chroma};
+ghost use Rattle.weights.specs.Steps.{as_luma, as_chroma};
 ghost use Rattle.weights.specs.Halves.{luma_half, chroma_half};
+ghost use Rattle.bits.specs.Answers.{as_read};
 
-use bits::read::{Cursor, ReadFlag, why_flag};
-use bits::refusals::{Refusal, no_refusal};
+use bits::read::{Cursor, Read};
+use bits::refusals::Refusal;
 use fields::read::{given_flag, given_signed};
-use fields::step::{SignedGiven, why_given};
 use syntax::record::Weight;
-
-#[derive(Clone, Copy)]
-pub enum WeightStep {
-    Refused(Refusal),
-    Got(Weight, Cursor),
-}
 
 #[derive(Clone, Copy)]
 struct Luma {
     flag: bool,
     weight: i32,
     offset: i32,
-}
-
-#[derive(Clone, Copy)]
-enum LumaStep {
-    Refused(Refusal),
-    Got(Luma, Cursor),
 }
 
 #[derive(Clone, Copy)]
@@ -39,113 +27,49 @@ struct Chroma {
     cr_offset: i32,
 }
 
-#[derive(Clone, Copy)]
-enum ChromaStep {
-    Refused(Refusal),
-    Got(Chroma, Cursor),
-}
-
-// The refusal of an answer that is one.
-pub fn why_weight(a: WeightStep) -> Refusal
-    ensures { result ≡ why_weight a }
-{
-    match a {
-        WeightStep::Got(_, _) => no_refusal(),
-        WeightStep::Refused(r) => r,
-    }
-}
-
-fn why_luma(a: LumaStep) -> Refusal
-    ensures { result ≡ why_luma a }
-{
-    match a {
-        LumaStep::Got(_, _) => no_refusal(),
-        LumaStep::Refused(r) => r,
-    }
-}
-
-fn why_chroma(a: ChromaStep) -> Refusal
-    ensures { result ≡ why_chroma a }
-{
-    match a {
-        ChromaStep::Got(_, _) => no_refusal(),
-        ChromaStep::Refused(r) => r,
-    }
-}
-
-fn luma_half(s: &[u8], c: Cursor) -> LumaStep
+fn luma_half(s: &[u8], c: Cursor) -> Read<Luma>
     ensures { as_luma result ≡ luma_half.read (bits_of s.now) c.at }
 {
-    let a1 = c.flag(s);
-    let ReadFlag::Got(f, c1) = a1 else {
-        return LumaStep::Refused(why_flag(a1));
-    };
-    let a2 = given_signed(s, c1, f);
-    let SignedGiven::Got(w, c2) = a2 else {
-        return LumaStep::Refused(why_given(a2));
-    };
-    let a3 = given_signed(s, c2, f);
-    let SignedGiven::Got(o, c3) = a3 else {
-        return LumaStep::Refused(why_given(a3));
-    };
-    LumaStep::Got(
+    let (f, c1) = c.flag(s)?;
+    let (w, c2) = given_signed(s, c1, f)?;
+    let (o, c3) = given_signed(s, c2, f)?;
+    Ok((
         Luma {
             flag: f,
-            weight: w.value,
-            offset: o.value,
+            weight: w,
+            offset: o,
         },
         c3,
-    )
+    ))
 }
 
-fn chroma_half(s: &[u8], c: Cursor, chroma: bool) -> ChromaStep
+fn chroma_half(s: &[u8], c: Cursor, chroma: bool) -> Read<Chroma>
     ensures { as_chroma result ≡ (chroma_half chroma).read (bits_of s.now) c.at }
 {
-    let a1 = given_flag(s, c, chroma);
-    let ReadFlag::Got(f, c1) = a1 else {
-        return ChromaStep::Refused(why_flag(a1));
-    };
-    let a2 = given_signed(s, c1, f);
-    let SignedGiven::Got(bw, c2) = a2 else {
-        return ChromaStep::Refused(why_given(a2));
-    };
-    let a3 = given_signed(s, c2, f);
-    let SignedGiven::Got(bo, c3) = a3 else {
-        return ChromaStep::Refused(why_given(a3));
-    };
-    let a4 = given_signed(s, c3, f);
-    let SignedGiven::Got(rw, c4) = a4 else {
-        return ChromaStep::Refused(why_given(a4));
-    };
-    let a5 = given_signed(s, c4, f);
-    let SignedGiven::Got(ro, c5) = a5 else {
-        return ChromaStep::Refused(why_given(a5));
-    };
-    ChromaStep::Got(
+    let (f, c1) = given_flag(s, c, chroma)?;
+    let (bw, c2) = given_signed(s, c1, f)?;
+    let (bo, c3) = given_signed(s, c2, f)?;
+    let (rw, c4) = given_signed(s, c3, f)?;
+    let (ro, c5) = given_signed(s, c4, f)?;
+    Ok((
         Chroma {
             flag: f,
-            cb_weight: bw.value,
-            cb_offset: bo.value,
-            cr_weight: rw.value,
-            cr_offset: ro.value,
+            cb_weight: bw,
+            cb_offset: bo,
+            cr_weight: rw,
+            cr_offset: ro,
         },
         c5,
-    )
+    ))
 }
 
 // An entry; its chroma half is there only if `chroma`.
-pub fn weight(s: &[u8], c: Cursor, chroma: bool) -> WeightStep
-    ensures { as_weight result ≡ (weight chroma).read (bits_of s.now) c.at }
+pub fn weight(s: &[u8], c: Cursor, chroma: bool) -> Read<Weight>
+    ensures { as_read result ≡ (weight chroma).read (bits_of s.now) c.at }
 {
-    let a1 = luma_half(s, c);
-    let LumaStep::Got(l, c1) = a1 else {
-        return WeightStep::Refused(why_luma(a1));
-    };
-    let a2 = chroma_half(s, c1, chroma);
-    let ChromaStep::Got(h, c2) = a2 else {
-        return WeightStep::Refused(why_chroma(a2));
-    };
-    WeightStep::Got(
+    let (l, c1) = luma_half(s, c)?;
+    let (h, c2) = chroma_half(s, c1, chroma)?;
+    Ok((
         Weight {
             luma_weight_flag: l.flag,
             luma_weight: l.weight,
@@ -157,5 +81,5 @@ pub fn weight(s: &[u8], c: Cursor, chroma: bool) -> WeightStep
             cr_offset: h.cr_offset,
         },
         c2,
-    )
+    ))
 }

@@ -5,17 +5,16 @@ ghost use Rattle.bits.specs.Bits.{bits_of};
 ghost use Rattle.bits.specs.Refusals.{pick};
 ghost use Rattle.syntax.specs.SliceHeader.{weight_list, pred_weight_table};
 ghost use Rattle.weights.specs.Counts.{at_most32};
-ghost use Rattle.weights.specs.WeightsLent.{flag_word, entry_words, entries_begun, l0_begun, l1_begun, emptied_weights, weights_step, why_weights, list_step, why_list};
+ghost use Rattle.weights.specs.WeightsLent.{flag_word, entry_words, entries_begun, l0_begun, l1_begun, emptied_weights, weights_step, list_step};
 
 use crate::list::at_most_32;
-use crate::weight::{WeightStep, weight, why_weight};
-use bits::read::{Cursor, Read, why};
-use bits::refusals::{Refusal, no_refusal};
+use crate::weight::weight;
+use bits::read::{Cursor, Read};
+use bits::refusals::Refusal;
 use fields::conditions::{B, has_chroma, is_type, is_weighted};
 use fields::read::number_if;
-use fields::step::{NumberStep, why_number};
 use syntax::context::Context;
-use syntax::marks::MarkedNumber;
+use syntax::marks::Marked;
 use syntax::record::Weight;
 
 // The table without its entries: l0 and l1 are their counts. An entry is eight words, in the syntax's order, with flags as 0 and 1.
@@ -24,42 +23,9 @@ use syntax::record::Weight;
 pub struct WeightsShort {
     pub there: bool,
     pub luma_log2_weight_denom: u32,
-    pub chroma_log2_weight_denom: MarkedNumber,
+    pub chroma_log2_weight_denom: Marked<u32>,
     pub l0: u32,
     pub l1: u32,
-}
-
-// The refusal first, as in `LeadStep`.
-#[derive(Clone, Copy)]
-pub enum WeightsStep {
-    Refused(Refusal),
-    Got(WeightsShort, Cursor),
-}
-
-// How many entries a list has.
-#[derive(Clone, Copy)]
-enum ListStep {
-    Refused(Refusal),
-    Got(u32, Cursor),
-}
-
-// The refusal of an answer that is one.
-pub fn why_weights(a: WeightsStep) -> Refusal
-    ensures { result ≡ why_weights a }
-{
-    match a {
-        WeightsStep::Got(_, _) => no_refusal(),
-        WeightsStep::Refused(r) => r,
-    }
-}
-
-fn why_list(a: ListStep) -> Refusal
-    ensures { result ≡ why_list a }
-{
-    match a {
-        ListStep::Got(_, _) => no_refusal(),
-        ListStep::Refused(r) => r,
-    }
 }
 
 // The array is set whole: a loop would have to show how long a lent array is.
@@ -74,10 +40,8 @@ pub fn empty_weights(words: &mut [i32; 256], count: u32)
     ensures { words.new ≡ emptied_weights count words.old }
 {
     let end = 8 * at_most_32(count) as usize;
-    let mut k: usize = 0;
-    while k < end {
+    for k in 0..end {
         words[k] = 0;
-        k += 1;
     }
 }
 
@@ -112,24 +76,18 @@ fn store(words: &mut [i32; 256], i: usize, w: Weight)
 }
 
 // n entries, at most 32. After a refusal the words hold the entries that were read before it.
-fn list_into(s: &[u8], c: Cursor, chroma: bool, n: u32, words: &mut [i32; 256]) -> ListStep
+fn list_into(s: &[u8], c: Cursor, chroma: bool, n: u32, words: &mut [i32; 256]) -> Read<u32>
     ensures value { result ≡ list_step ((weight_list chroma (at_most32 n)).read (bits_of s.now) c.at) }
     ensures words_after { words.new ≡ sets words.old 0 (entries_begun chroma (at_most32 n) (bits_of s.now) c.at) }
 {
     let count = at_most_32(n);
-    let mut i: u32 = 0;
     let mut at = c;
-    while i < count {
-        let a = weight(s, at, chroma);
-        let WeightStep::Got(w, next) = a else {
-            return ListStep::Refused(why_weight(a));
-        };
-        let k = i as usize;
-        store(words, k, w);
-        i += 1;
+    for i in 0..count {
+        let (w, next) = weight(s, at, chroma)?;
+        store(words, i as usize, w);
         at = next;
     }
-    ListStep::Got(count, at)
+    Ok((count, at))
 }
 
 // A list that is there only under a condition: where it is not, it costs no call.
@@ -140,12 +98,12 @@ fn list_if(
     chroma: bool,
     n: u32,
     words: &mut [i32; 256],
-) -> ListStep
+) -> Read<u32>
     ensures value { result ≡ list_step ((weight_list chroma (pick there (at_most32 n) 0)).read (bits_of s.now) c.at) }
     ensures words_after { words.new ≡ sets words.old 0 (entries_begun chroma (pick there (at_most32 n) 0) (bits_of s.now) c.at) }
 {
     if !there {
-        return ListStep::Got(0, c);
+        return Ok((0, c));
     }
     list_into(s, c, chroma, n, words)
 }
@@ -161,17 +119,17 @@ pub fn weights_onto(
     n1: u32,
     w0: &mut [i32; 256],
     w1: &mut [i32; 256],
-) -> WeightsStep
+) -> Read<WeightsShort>
     ensures value { result ≡ weights_step ((pred_weight_table x slice_type (at_most32 n0) (at_most32 n1)).read (bits_of s.now) c.at) }
     ensures w0_after { w0.new ≡ sets w0.old 0 (l0_begun x slice_type (at_most32 n0) (bits_of s.now) c.at) }
     ensures w1_after { w1.new ≡ sets w1.old 0 (l1_begun x slice_type (at_most32 n0) (at_most32 n1) (bits_of s.now) c.at) }
 {
     if !is_weighted(x, slice_type) {
-        return WeightsStep::Got(
+        return Ok((
             WeightsShort {
                 there: false,
                 luma_log2_weight_denom: 0,
-                chroma_log2_weight_denom: MarkedNumber {
+                chroma_log2_weight_denom: Marked {
                     there: false,
                     value: 0,
                 },
@@ -179,26 +137,14 @@ pub fn weights_onto(
                 l1: 0,
             },
             c,
-        );
+        ));
     }
     let chroma = has_chroma(x);
-    let a1 = c.ue(s);
-    let Read::Got(luma, c1) = a1 else {
-        return WeightsStep::Refused(why(a1));
-    };
-    let a2 = number_if(s, c1, chroma);
-    let NumberStep::Got(m, c2) = a2 else {
-        return WeightsStep::Refused(why_number(a2));
-    };
-    let a3 = list_into(s, c2, chroma, n0, w0);
-    let ListStep::Got(k0, c3) = a3 else {
-        return WeightsStep::Refused(why_list(a3));
-    };
-    let a4 = list_if(s, c3, is_type(slice_type, B), chroma, n1, w1);
-    let ListStep::Got(k1, c4) = a4 else {
-        return WeightsStep::Refused(why_list(a4));
-    };
-    WeightsStep::Got(
+    let (luma, c1) = c.ue(s)?;
+    let (m, c2) = number_if(s, c1, chroma)?;
+    let (k0, c3) = list_into(s, c2, chroma, n0, w0)?;
+    let (k1, c4) = list_if(s, c3, is_type(slice_type, B), chroma, n1, w1)?;
+    Ok((
         WeightsShort {
             there: true,
             luma_log2_weight_denom: luma,
@@ -207,5 +153,5 @@ pub fn weights_onto(
             l1: k1,
         },
         c4,
-    )
+    ))
 }

@@ -20,21 +20,20 @@ use Rattle.syntax.specs.declared.context.UnitKind.{UnitKind}
 use Rattle.syntax.specs.declared.record.SliceHeader.{SliceHeader}
 use Rattle.syntax.specs.SliceHeader.{header}
 use Rattle.writer.specs.declared.given.ExtensionGiven.{ExtensionGiven}
-use Rattle.writer.specs.declared.given.KindGiven.{KindGiven}
-use Rattle.writer.specs.declared.sets.SetsFor.{SetsFor}
-use Rattle.writer.specs.declared.write.HeaderWrote.{HeaderWrote}
 use Rattle.writer.specs.Given.{kind_given}
 use Rattle.writer.specs.Write.{sets_for, HeaderOut, untouched, bits_out, after_sets, after_kind, write_where, write_header}
 use Rattle.writer.proofs.Passed.{Found}
+use Rattle.std.specs.Prelude.{Result, Ok, Err}
+use Rattle.writer.specs.declared.sets.Sets.{Sets}
 
 -- an answer that is a refusal is none of bits
-pub no_bits_lem : {P : Type 0} {r : Refusal} {n : ℕ} → HeaderWrote.Refused r ≡ HeaderWrote.Bits n → P
+pub no_bits_lem : {P : Type 0} {r : Refusal} {n : ℕ} → Err r ≡ Ok n → P
 no_bits_lem e = absurd (let z : ◌≡◌ {A = ℕ} 0 1 = (cc e) in omega arith)
 
 -- n bits were written, and `left` is the buffer at exit
 pub record Wrote (t : Table) (b : ℕ) (x : ExtensionGiven) (h : SliceHeader) (out : List ℕ) (n : ℕ) (left : List ℕ) : Type 0 where
   pub kind : UnitKind
-  pub is-kind : kind_given b x ≡ KindGiven.Of kind
+  pub is-kind : kind_given b x ≡ Ok kind
   pub is-good : T ((header t kind).good h)
   pub size : n ≡ length ((header t kind).bits h)
   pub room : length ((header t kind).bits h) ≤ length (bits_of out)
@@ -54,12 +53,12 @@ module _ (t : Table) (k : UnitKind) (h : SliceHeader) (out : List ℕ) where
   unfolding bits_out written
   out-short g s = rw (T_true ((header t k).good h) g, zero-add (length l), lt-leb (length l) (length (bits_of out)) s)
 
-  pub out-bits : T ((header t k).good h) → length l ≤ length (bits_of out) → bits_out true t k h out ≡ record { answer = HeaderWrote.Bits (length l); left = put_bits out 0 l }
+  pub out-bits : T ((header t k).good h) → length l ≤ length (bits_of out) → bits_out true t k h out ≡ record { answer = Ok (length l); left = put_bits out 0 l }
   unfolding bits_out written
   out-bits g s = rw (T_true ((header t k).good h) g, zero-add (length l), le-leb (length l) (length (bits_of out)) s)
 
   -- a good record's answer is not 25
-  pub good-written : T ((header t k).good h) → (bits_out true t k h out).answer ≡ HeaderWrote.Refused (refusal no_bits (pos 0)) → ⊥
+  pub good-written : T ((header t k).good h) → (bits_out true t k h out).answer ≡ Err (refusal no_bits (pos 0)) → ⊥
   good-written g w =
       cases (leb (length l) (length (bits_of out)))
       (λ r.
@@ -74,15 +73,15 @@ module _ (t : Table) (k : UnitKind) (h : SliceHeader) (out : List ℕ) where
 -- ---- for what is told of the unit
 
 module _ (t : Table) (b : ℕ) (x : ExtensionGiven) (h : SliceHeader) (out : List ℕ) where
-  pub goes_on : {k : UnitKind} → kind_given b x ≡ KindGiven.Of k → Found t h.pic_parameter_set_id → write_header t b x h out ≡ bits_out true t k h out
+  pub goes_on : {k : UnitKind} → kind_given b x ≡ Ok k → Found t h.pic_parameter_set_id → write_header t b x h out ≡ bits_out true t k h out
   unfolding write_where
   goes_on q f = rw (q, f.are)
 
   module _ (n : ℕ) (left : List ℕ) where
     abbrev Out : HeaderOut
-    Out = record { answer = HeaderWrote.Bits n; left = left }
+    Out = record { answer = Ok n; left = left }
 
-    of-bits : (k : UnitKind) → kind_given b x ≡ KindGiven.Of k → bits_out true t k h out ≡ Out → Wrote t b x h out n left
+    of-bits : (k : UnitKind) → kind_given b x ≡ Ok k → bits_out true t k h out ≡ Out → Wrote t b x h out n left
     of-bits k q w =
         let m = length ((header t k).bits h) in
         cases ((header t k).good h)
@@ -105,14 +104,14 @@ module _ (t : Table) (b : ℕ) (x : ExtensionGiven) (h : SliceHeader) (out : Lis
         no_bits_lem (ap (λ (o : HeaderOut). o.answer) e)))
         (λ g. no_bits_lem (ap (λ (o : HeaderOut). o.answer) (sym (out_none t k h out g) ∙ w)))
 
-    of-sets : (k : UnitKind) → kind_given b x ≡ KindGiven.Of k → (f : SetsFor) → after_sets true t k h out f ≡ Out → Wrote t b x h out n left
-    of-sets k q (SetsFor.There p v s) w = of-bits k q w
-    of-sets k q (SetsFor.Refused r) w = no_bits_lem (ap (λ (o : HeaderOut). o.answer) w)
+    of-sets : (k : UnitKind) → kind_given b x ≡ Ok k → (f : Result Sets Refusal) → after_sets true t k h out f ≡ Out → Wrote t b x h out n left
+    of-sets k q (Ok s) w = of-bits k q w
+    of-sets k q (Err r) w = no_bits_lem (ap (λ (o : HeaderOut). o.answer) w)
 
-    of-kind : (f : KindGiven) → kind_given b x ≡ f → after_kind true t h out f ≡ Out → Wrote t b x h out n left
-    of-kind (KindGiven.Of k) q w = of-sets k q (sets_for t h.pic_parameter_set_id) w
-    of-kind (KindGiven.Refused r) q w = no_bits_lem (ap (λ (o : HeaderOut). o.answer) w)
+    of-kind : (f : Result UnitKind Refusal) → kind_given b x ≡ f → after_kind true t h out f ≡ Out → Wrote t b x h out n left
+    of-kind (Ok k) q w = of-sets k q (sets_for t h.pic_parameter_set_id) w
+    of-kind (Err r) q w = no_bits_lem (ap (λ (o : HeaderOut). o.answer) w)
 
-  pub wrote : {n : ℕ} {left : List ℕ} → write_header t b x h out ≡ record { answer = HeaderWrote.Bits n; left = left } → Wrote t b x h out n left
+  pub wrote : {n : ℕ} {left : List ℕ} → write_header t b x h out ≡ record { answer = Ok n; left = left } → Wrote t b x h out n left
   unfolding write_where
   wrote {n} {left} w = of-kind n left (kind_given b x) refl w

@@ -25,15 +25,15 @@ use Rattle.unit.specs.Unit.{unit_read}
 use Rattle.unit.specs.Into.{Lent, words_after}
 use Rattle.unit.specs.Into as into
 use Rattle.writer.specs.declared.given.ExtensionGiven.{ExtensionGiven}
-use Rattle.writer.specs.declared.given.KindGiven.{KindGiven}
-use Rattle.writer.specs.declared.sets.SetsFor.{SetsFor}
-use Rattle.writer.specs.declared.write.HeaderWrote.{HeaderWrote}
 use Rattle.writer.specs.Given.{kind_given}
 use Rattle.writer.specs.Write.{HeaderOut, sets_for, bits_out, after_sets, after_kind, write_where, write_header, write_words}
 use Rattle.writer.proofs.Passed.{sets-found, not-scalable}
 use Rattle.writer.proofs.Answers.{no_bits_lem, wrote}
 use Rattle.writer.proofs.Units.{Starts, tells, first_of, extension_in, body_of, body_bits, slice-read}
 use Rattle.writer.proofs.RoundTrip.{reads-back, rewrites-as, rewrites, refused-no-unit}
+use Rattle.std.specs.Prelude.{Result, Ok, Err}
+use Rattle.bits.specs.declared.refusals.Refusal.{Refusal}
+use Rattle.writer.specs.declared.sets.Sets.{Sets}
 
 -- ---- words and the record that they hold
 
@@ -43,17 +43,17 @@ module _ (t : Table) (b : ℕ) (x : ExtensionGiven) (w : HeaderWords) (out : Lis
   plain-written p = rw p
 
   -- words that hold no record are not written
-  written-plain : {n : ℕ} {left : List ℕ} → write_words t b x w out ≡ record { answer = HeaderWrote.Bits n; left = left } → plain w ≡ true
+  written-plain : {n : ℕ} {left : List ℕ} → write_words t b x w out ≡ record { answer = Ok n; left = left } → plain w ≡ true
   unfolding write_words write_where bits_out written
   written-plain {n} {left} e = cases (plain w) (λ p. p) (λ p. of-kind (kind_given b x) (rw p at e))
     where
-      of-sets : (k : UnitKind) (f : SetsFor) → after_sets false t k (header_from w) out f ≡ record { answer = HeaderWrote.Bits n; left = left } → plain w ≡ true
-      of-sets k (SetsFor.There p v s) q = no_bits_lem (ap (λ (o : HeaderOut). o.answer) q)
-      of-sets k (SetsFor.Refused r) q = no_bits_lem (ap (λ (o : HeaderOut). o.answer) q)
+      of-sets : (k : UnitKind) (f : Result Sets Refusal) → after_sets false t k (header_from w) out f ≡ record { answer = Ok n; left = left } → plain w ≡ true
+      of-sets k (Ok s) q = no_bits_lem (ap (λ (o : HeaderOut). o.answer) q)
+      of-sets k (Err r) q = no_bits_lem (ap (λ (o : HeaderOut). o.answer) q)
 
-      of-kind : (f : KindGiven) → after_kind false t (header_from w) out f ≡ record { answer = HeaderWrote.Bits n; left = left } → plain w ≡ true
-      of-kind (KindGiven.Of k) q = of-sets k (sets_for t (header_from w).pic_parameter_set_id) q
-      of-kind (KindGiven.Refused r) q = no_bits_lem (ap (λ (o : HeaderOut). o.answer) q)
+      of-kind : (f : Result UnitKind Refusal) → after_kind false t (header_from w) out f ≡ record { answer = Ok n; left = left } → plain w ≡ true
+      of-kind (Ok k) q = of-sets k (sets_for t (header_from w).pic_parameter_set_id) q
+      of-kind (Err r) q = no_bits_lem (ap (λ (o : HeaderOut). o.answer) q)
 
 -- ---- what was read is written as it stood
 
@@ -88,16 +88,16 @@ module _ (t : Table) (u scratch : List ℕ) (lent : Lent) (size : Sized lent.hea
 
   -- writing them, for a first byte and an extension that the unit starts with, puts the first e bits of its body back
   pub puts-back-as : (b : ℕ) (x : ExtensionGiven) (v out : List ℕ) → Starts b x u v → bytes_for e ≤ length out
-      → write_words t b x after out ≡ record { answer = HeaderWrote.Bits e; left = put_bits out 0 (take e (body_bits v)) }
+      → write_words t b x after out ≡ record { answer = Ok e; left = put_bits out 0 (take e (body_bits v)) }
   puts-back-as b x v out s room = after-written b x out ∙ rewrites-as t u scratch read.header e a refl b x v out s room
 
   -- for its own
   pub puts_back : (out : List ℕ) → bytes_for e ≤ length out
-      → write_words t (first_of u) (extension_in u) after out ≡ record { answer = HeaderWrote.Bits e; left = put_bits out 0 (take e (body_bits (body_of u))) }
+      → write_words t (first_of u) (extension_in u) after out ≡ record { answer = Ok e; left = put_bits out 0 (take e (body_bits (body_of u))) }
   puts_back out room = after-written (first_of u) (extension_in u) out ∙ rewrites t u scratch read.header e a refl out room
 
   -- and 25 is never given for them
-  pub never-refused : (b : ℕ) (x : ExtensionGiven) (v out : List ℕ) → Starts b x u v → (write_words t b x after out).answer ≡ HeaderWrote.Refused (refusal no_bits (pos 0)) → ⊥
+  pub never-refused : (b : ℕ) (x : ExtensionGiven) (v out : List ℕ) → Starts b x u v → (write_words t b x after out).answer ≡ Err (refusal no_bits (pos 0)) → ⊥
   never-refused b x v out s q =
       let y = slice-read t u scratch a refl in
       let z = syntax.rewrites t y.kind _ read.header e y.reads in
@@ -109,11 +109,11 @@ module _ (t : Table) (u scratch : List ℕ) (lent : Lent) (size : Sized lent.hea
 
 -- words of which n bits were written
 module _ (t : Table) (b : ℕ) (x : ExtensionGiven) (w : HeaderWords) (size : Sized w) (out : List ℕ) {n : ℕ} {left : List ℕ}
-    (p : write_words t b x w out ≡ record { answer = HeaderWrote.Bits n; left = left }) where
+    (p : write_words t b x w out ≡ record { answer = Ok n; left = left }) where
   is_plain : plain w ≡ true
   is_plain = written-plain t b x w out p
 
-  is-record : write_header t b x (header_from w) out ≡ record { answer = HeaderWrote.Bits n; left = left }
+  is-record : write_header t b x (header_from w) out ≡ record { answer = Ok n; left = left }
   is-record = sym (plain-written t b x w out is_plain) ∙ p
 
   -- a unit whose body starts with them, with a bit set later than the one that follows them

@@ -1,5 +1,5 @@
 -- The header's format once its sets are known: it is the format by the table, and a buffer of 6,144 bytes has room for its bits.
-use Prim.Native.Nat.{ℕ, ◌*◌, ◌≤◌, ◌<◌}
+use Prim.Native.Nat.{ℕ, ◌*◌, ◌≤◌}
 use mathlib.Core.Path.{◌≡◌, refl, sym, ap, ap₂, subst, subst⁻¹, ◌∙◌}
 use mathlib.Core.List.{List}
 use mathlib.Core.Bool.{Bool, true, false, ◌&&◌, and_assoc}
@@ -20,9 +20,7 @@ use Rattle.fmt.proofs.Sizes.{Short, ue-short}
 use Rattle.table.specs.declared.sets.Picture.{Picture}
 use Rattle.table.specs.declared.sets.Sequence.{Sequence}
 use Rattle.table.specs.declared.table.Table.{Table}
-use Rattle.table.specs.declared.words.FoundPicture.{FoundPicture}
-use Rattle.table.specs.declared.words.FoundSequence.{FoundSequence}
-use Rattle.table.specs.Tables.{picture_at, sequence_at}
+use Rattle.table.specs.Tables.{found_picture, picture_at, sequence_at}
 use Rattle.syntax.specs.declared.context.UnitKind.{UnitKind}
 use Rattle.syntax.specs.declared.context.Context.{Context}
 use Rattle.syntax.specs.declared.record.SliceHeader.{SliceHeader}
@@ -33,54 +31,57 @@ use Rattle.syntax.proofs.Sets.{Few, defaults-few}
 use Rattle.syntax.proofs.HeaderSize.{parts-short}
 use Rattle.header.specs.Short.{HeaderWords}
 use Rattle.record.specs.Record.{header_from, plain_numbers, plain}
-use Rattle.writer.specs.declared.sets.SetsFor.{SetsFor}
 use Rattle.writer.specs.Write.{with_picture, with_sequence, sets_for, untouched, out_of, bits_out}
-use Rattle.writer.specs.Places.{nowhere, PutTo}
+use Rattle.writer.specs.Places.{PutTo}
 use Rattle.writer.specs.Stages.{fields, fields_out, is_known, known_out, copied}
 use Rattle.writer.proofs.Stages.{done_at, stopped-at}
 use Rattle.writer.proofs.Passed.{picture-is, sequence-id}
 use Rattle.writer.proofs.Room.{room-bits}
 use Rattle.writer.proofs.Copies.{copied-written}
+use Rattle.std.specs.Prelude.{Ok, Option, Some, None}
+use Rattle.writer.specs.declared.sets.Sets.{Sets}
 
 -- ---- by the table
 
 -- the sets that were found
-record Are (t : Table) (id : ℕ) (p : Picture) (v : ℕ) (s : Sequence) : Type 0 where
+record Are (t : Table) (id : ℕ) (y : Sets) : Type 0 where
   low : leb id 255 ≡ true
-  picture : picture_at t id ≡ FoundPicture.There p v
-  sequence : sequence_at t p.seq_parameter_set_id ≡ FoundSequence.There s
+  picture : picture_at t id ≡ found_picture y.picture y.cycle_width
+  sequence : sequence_at t y.picture.seq_parameter_set_id ≡ Some y.sequence
 
-module _ (t : Table) (id : ℕ) (p : Picture) (v : ℕ) (s : Sequence) where
-  with-sequence : leb id 255 ≡ true → (q : Picture) (u : ℕ) → picture_at t id ≡ FoundPicture.There q u → (f : FoundSequence) → sequence_at t q.seq_parameter_set_id ≡ f
-      → with_sequence q u f ≡ SetsFor.There p v s → Are t id p v s
-  with-sequence l q u k (FoundSequence.There r) g e =
-      let i : q ≡ p = (cc e) in
-      let m : u ≡ v = (cc e) in
-      let j : r ≡ s = (cc e) in
-      record { low = l; picture = k ∙ (λ y. FoundPicture.There (i y) (m y)); sequence = ap (λ (x : Picture). sequence_at t x.seq_parameter_set_id) (sym i) ∙ g ∙ ap FoundSequence.There j }
-  with-sequence l q u k FoundSequence.Absent g e = absurd (let z : ◌≡◌ {A = ℕ} 0 1 = (cc e) in omega arith)
+-- the context that they make for a unit's kind
+abbrev pub context : Sets → UnitKind → Context
+context y n = record { kind = n; picture = y.picture; sequence = y.sequence; cycle_width = y.cycle_width }
 
-  with-picture : leb id 255 ≡ true → (f : FoundPicture) → picture_at t id ≡ f → with_picture t id f ≡ SetsFor.There p v s → Are t id p v s
-  with-picture l (FoundPicture.There q u) k e = with-sequence l q u k (sequence_at t q.seq_parameter_set_id) refl e
-  with-picture l FoundPicture.Absent k e = absurd (let z : ◌≡◌ {A = ℕ} 0 1 = (cc e) in omega arith)
+module _ (t : Table) (id : ℕ) (y : Sets) where
+  with-sequence : leb id 255 ≡ true → (p : Picture) (w : ℕ) → picture_at t id ≡ found_picture p w → (f : Option Sequence) → sequence_at t p.seq_parameter_set_id ≡ f
+      → with_sequence p w f ≡ Ok y → Are t id y
+  with-sequence l p w k (Some s) g e =
+      let i : record { picture = p; cycle_width = w; sequence = s } ≡ y = (cc e) in
+      subst (Are t id) i (record { low = l; picture = k; sequence = g })
+  with-sequence l p w k None g e = absurd (let z : ◌≡◌ {A = ℕ} 0 1 = (cc e) in omega arith)
 
-  sets-are : sets_for t id ≡ SetsFor.There p v s → Are t id p v s
+  with-picture : leb id 255 ≡ true → (f : Option (Picture × ℕ)) → picture_at t id ≡ f → with_picture t id f ≡ Ok y → Are t id y
+  with-picture l (found_picture p w) k e = with-sequence l p w k (sequence_at t p.seq_parameter_set_id) refl e
+  with-picture l None k e = absurd (let z : ◌≡◌ {A = ℕ} 0 1 = (cc e) in omega arith)
+
+  sets-are : sets_for t id ≡ Ok y → Are t id y
   unfolding sets_for
   sets-are e =
       cases (leb id 255)
       (λ l. with-picture l (picture_at t id) refl (rw l at e))
       (λ l. let w = rw l at e in absurd (let z : ◌≡◌ {A = ℕ} 0 1 = (cc w) in omega arith))
 
-  module _ (a : Are t id p v s) where
-    sequence-is : sequence_for t id ≡ s
+  module _ (a : Are t id y) where
+    sequence-is : sequence_for t id ≡ y.sequence
     unfolding sequence_for
     sequence-is = rw (sequence-id t id a.picture, a.sequence)
 
-    width_is : width_for t id ≡ v
+    width_is : width_for t id ≡ y.cycle_width
     unfolding width_for
     width_is = rw a.picture
 
-    context-is : (n : UnitKind) → context_for t n id ≡ record { kind = n; picture = p; sequence = s; cycle_width = v }
+    context-is : (n : UnitKind) → context_for t n id ≡ context y n
     unfolding context_for
     context-is n = λ i. record { kind = n; picture = picture-is t id a.picture i; sequence = sequence-is i; cycle_width = width_is i }
 
@@ -89,11 +90,10 @@ module _ (t : Table) (id : ℕ) (p : Picture) (v : ℕ) (s : Sequence) where
     id-good = rw (sequence-id t id a.picture, a.sequence, a.picture, a.low)
 
 -- its counts of references are those of a set within the ranges
-pub known-few : (t : Table) (id : ℕ) (p : Picture) (v : ℕ) (s : Sequence) → sets_for t id ≡ SetsFor.There p v s → Few p
-known-few t id p v s e = subst Few (picture-is t id (sets-are t id p v s e).picture) (defaults-few t id)
+pub known-few : (t : Table) (id : ℕ) (y : Sets) → sets_for t id ≡ Ok y → Few y.picture
+known-few t id y e = subst Few (picture-is t id (sets-are t id y e).picture) (defaults-few t id)
 
-module _ (t : Table) (n : UnitKind) (w : HeaderWords) (out : List ℕ) (p : Picture) (v : ℕ) (s : Sequence)
-    (e : sets_for t (header_from w).pic_parameter_set_id ≡ SetsFor.There p v s) where
+module _ (t : Table) (n : UnitKind) (w : HeaderWords) (out : List ℕ) (y : Sets) (e : sets_for t (header_from w).pic_parameter_set_id ≡ Ok y) where
   abbrev h : SliceHeader
   h = header_from w
 
@@ -101,17 +101,17 @@ module _ (t : Table) (n : UnitKind) (w : HeaderWords) (out : List ℕ) (p : Pict
   id = h.pic_parameter_set_id
 
   abbrev x : Context
-  x = record { kind = n; picture = p; sequence = s; cycle_width = v }
+  x = context y n
 
   good-known : (header t n).good h ≡ is_known x h
   unfolding header shaped seq lead
   good-known =
-      let a = sets-are t id p v s e in
-      rw (sequence-id t id a.picture, id-good t id p v s a, context-is t id p v s a n)
+      let a = sets-are t id y e in
+      rw (sequence-id t id a.picture, id-good t id y a, context-is t id y a n)
 
   bits-known : (header t n).bits h ≡ (fields x).bits (of_header h)
   unfolding header shaped seq lead picture_set_id test
-  bits-known = rw (context-is t id p v s (sets-are t id p v s e) n)
+  bits-known = rw (context-is t id y (sets-are t id y e) n)
 
   pub known_out_lem : known_out x w out ≡ bits_out (plain w) t n h out
   unfolding known_out bits_out
@@ -158,30 +158,30 @@ module _ (x : Context) (h : SliceHeader) (d : List ℕ) where
   most : T ((fields x).good (of_header h)) → length l ≤ 8 * 6144
   most g = omega (arith, (fields-short x).most (of_header h) g)
 
-  -- 25: a part led nowhere, which was not for want of room
-  pub fields-nowhere : (out : List ℕ) → length d ≡ 6144 → {d' : List ℕ} (c : Cursor) → nowhere ≤ c.at → PutTo (fields x) (of_header h) d 0 d' c
+  -- 25: a part was refused, which was not for want of room
+  pub fields-refused : (out : List ℕ) → length d ≡ 6144 → {d' : List ℕ} → PutTo (fields x) (of_header h) d 0 d' None
       → fields_out x h out ≡ untouched (refusal no_bits (pos 0)) out
   unfolding fields_out written
-  fields-nowhere out len c n p =
+  fields-refused out len p =
       cases ((fields x).good (of_header h))
       (λ g.
       let t : T ((fields x).good (of_header h)) = rw g tt in
       let m = most t in
-      absurd (omega (arith, (stopped-at c n p).no_room t, room-bits d (length l) m (omega (arith, len)), zero-add (length l))))
+      absurd (omega (arith, (stopped-at p).no_room t, room-bits d (length l) m (omega (arith, len)), zero-add (length l))))
       (λ g. rw g)
 
-  module _ {d' : List ℕ} (c : Cursor) (n : c.at < nowhere) (p : PutTo (fields x) (of_header h) d 0 d' c) where
+  module _ {d' : List ℕ} {c : Cursor} (p : PutTo (fields x) (of_header h) d 0 d' (Some c)) where
     at-is : c.at ≡ length l
-    at-is = (done_at c n p).place ∙ zero-add (length l)
+    at-is = (done_at p).place ∙ zero-add (length l)
 
     pub fields-most : c.at ≤ 8 * 6144
-    fields-most = rw at-is (most (done_at c n p).is-good)
+    fields-most = rw at-is (most (done_at p).is-good)
 
     -- all parts were written: their bytes go out
     pub fields-done : (out : List ℕ) → c.at ≤ 8 * length d → copied d' c.at out ≡ fields_out x h out
     unfolding fields_out
     fields-done out q =
-        let w = done_at c n p in
+        let w = done_at p in
         (λ i. copied (w.now-is i) (at-is i) out)
         ∙ copied-written d l out (most w.is-good) (omega (arith, at-is))
         ∙ ap (λ (g : Bool). out_of (written g l out 0)) (sym (T_true ((fields x).good (of_header h)) w.is-good))

@@ -19,9 +19,7 @@ use Rattle.nal.specs.Header.{forbidden_zero_bit_of, header_from}
 use Rattle.nal.specs.Extension.{extension_from}
 use Rattle.table.specs.declared.sets.Picture.{Picture}
 use Rattle.table.specs.declared.table.Table.{Table}
-use Rattle.table.specs.declared.words.FoundPicture.{FoundPicture}
-use Rattle.table.specs.declared.words.FoundSequence.{FoundSequence}
-use Rattle.table.specs.Tables.{picture_at, sequence_at}
+use Rattle.table.specs.Tables.{found_picture, picture_at, sequence_at}
 use Rattle.syntax.specs.declared.context.UnitKind.{UnitKind}
 use Rattle.syntax.specs.declared.record.SliceHeader.{SliceHeader}
 use Rattle.syntax.specs.SliceHeader.{header, read_header}
@@ -30,15 +28,15 @@ use Rattle.unit.specs.declared.answer.UnitAnswer.{UnitAnswer}
 use Rattle.unit.specs.Begin.{type_in, is_plain}
 use Rattle.unit.specs.Unit.{unit_read}
 use Rattle.writer.specs.declared.given.ExtensionGiven.{ExtensionGiven}
-use Rattle.writer.specs.declared.given.KindGiven.{KindGiven}
-use Rattle.writer.specs.declared.sets.SetsFor.{SetsFor}
-use Rattle.writer.specs.declared.write.HeaderWrote.{HeaderWrote}
 use Rattle.writer.specs.Given.{with_extension, typed, kind_given}
 use Rattle.writer.specs.Write.{HeaderOut, with_sequence, with_picture, sets_for, bits_out, after_sets, after_kind, write_where, write_header}
 use Rattle.writer.proofs.Passed.{Found}
 use Rattle.writer.proofs.Answers.{out_none, out-short, out-bits}
 use Rattle.writer.proofs.Units.{byte, Starts, plain, with-extension, plain-short, never-of}
 use Rattle.writer.proofs.RoundTrip.{refused-no-unit, unread-refused}
+use Rattle.std.specs.Prelude.{Result, Ok, Err, Option, Some, None}
+use Rattle.table.specs.declared.sets.Sequence.{Sequence}
+use Rattle.writer.specs.declared.sets.Sets.{Sets}
 
 abbrev pub among : List ℕ → ℕ → Bool
 among [] n = false
@@ -46,11 +44,11 @@ among (m ∷ ms) n = eqb n m || among ms n
 
 -- ---- the checks on the unit: 2, 3, 4, 13
 
-abbrev KindFine : KindGiven → Type 0
-KindFine (KindGiven.Of k) = Unit {0}
-KindFine (KindGiven.Refused r) = T (among (2 ∷ 3 ∷ 4 ∷ 13 ∷ []) r.number) × (r.has_bit ≡ false)
+abbrev KindFine : Result UnitKind Refusal → Type 0
+KindFine (Ok k) = Unit {0}
+KindFine (Err r) = T (among (2 ∷ 3 ∷ 4 ∷ 13 ∷ []) r.number) × (r.has_bit ≡ false)
 
-kind-by : (c : Bool) (a b : KindGiven) → KindFine a → KindFine b → KindFine (pick c a b)
+kind-by : (c : Bool) (a b : Result UnitKind Refusal) → KindFine a → KindFine b → KindFine (pick c a b)
 kind-by true a b f g = f
 kind-by false a b f g = g
 
@@ -69,17 +67,17 @@ kind-fine b x = cases (eqb (forbidden_zero_bit_of b) 0) (λ i. rw i (typed-fine 
 
 -- ---- the checks on the sets: 8, 9, 10
 
-abbrev SetsFine : SetsFor → Type 0
-SetsFine (SetsFor.There p w s) = Unit {0}
-SetsFine (SetsFor.Refused r) = T (among (8 ∷ 9 ∷ 10 ∷ []) r.number) × (r.has_bit ≡ false)
+abbrev SetsFine : Result Sets Refusal → Type 0
+SetsFine (Ok s) = Unit {0}
+SetsFine (Err r) = T (among (8 ∷ 9 ∷ 10 ∷ []) r.number) × (r.has_bit ≡ false)
 
-sequence-fine : (p : Picture) (w : ℕ) (f : FoundSequence) → SetsFine (with_sequence p w f)
-sequence-fine p w (FoundSequence.There s) = tt
-sequence-fine p w FoundSequence.Absent = (tt, refl)
+sequence-fine : (p : Picture) (w : ℕ) (f : Option Sequence) → SetsFine (with_sequence p w f)
+sequence-fine p w (Some s) = tt
+sequence-fine p w None = (tt, refl)
 
-picture-fine : (t : Table) (id : ℕ) (f : FoundPicture) → SetsFine (with_picture t id f)
-picture-fine t id (FoundPicture.There p w) = sequence-fine p w (sequence_at t p.seq_parameter_set_id)
-picture-fine t id FoundPicture.Absent = (tt, refl)
+picture-fine : (t : Table) (id : ℕ) (f : Option (Picture × ℕ)) → SetsFine (with_picture t id f)
+picture-fine t id (found_picture p w) = sequence-fine p w (sequence_at t p.seq_parameter_set_id)
+picture-fine t id None = (tt, refl)
 
 sets-fine : (t : Table) (id : ℕ) → SetsFine (sets_for t id)
 unfolding sets_for
@@ -109,9 +107,9 @@ among-right (m ∷ xs) ys n h = go (eqb n m) (among-right xs ys n h)
     go false g = g
 
 -- a refusal leaves the buffer as it was, and has one of the numbers
-abbrev Fine : List ℕ → List ℕ → HeaderWrote → Type 0
-Fine out left (HeaderWrote.Bits n) = Unit {0}
-Fine out left (HeaderWrote.Refused r) = (left ≡ out) × (T (among numbers r.number) × (r.has_bit ≡ false))
+abbrev Fine : List ℕ → List ℕ → Result ℕ Refusal → Type 0
+Fine out left (Ok n) = Unit {0}
+Fine out left (Err r) = (left ≡ out) × (T (among numbers r.number) × (r.has_bit ≡ false))
 
 module _ (t : Table) (h : SliceHeader) (out : List ℕ) where
   abbrev OutFine : HeaderOut → Type 0
@@ -128,20 +126,20 @@ module _ (t : Table) (h : SliceHeader) (out : List ℕ) where
       (λ m. rw (out-short t k h out good (leb-false (length l) (length (bits_of out)) m)) (refl, (tt, refl))))
       (λ g. rw (out_none t k h out g) (refl, (tt, refl)))
 
-  by-sets : (k : UnitKind) (f : SetsFor) → SetsFine f → OutFine (after_sets true t k h out f)
-  by-sets k (SetsFor.There p w s) g = bits-fine k
-  by-sets k (SetsFor.Refused r) g = (refl, (among-right (2 ∷ 3 ∷ 4 ∷ 13 ∷ []) (8 ∷ 9 ∷ 10 ∷ 25 ∷ 26 ∷ []) r.number (among-left (8 ∷ 9 ∷ 10 ∷ []) (25 ∷ 26 ∷ []) r.number g.0), g.1))
+  by-sets : (k : UnitKind) (f : Result Sets Refusal) → SetsFine f → OutFine (after_sets true t k h out f)
+  by-sets k (Ok s) g = bits-fine k
+  by-sets k (Err r) g = (refl, (among-right (2 ∷ 3 ∷ 4 ∷ 13 ∷ []) (8 ∷ 9 ∷ 10 ∷ 25 ∷ 26 ∷ []) r.number (among-left (8 ∷ 9 ∷ 10 ∷ []) (25 ∷ 26 ∷ []) r.number g.0), g.1))
 
-  by_kind : (f : KindGiven) → KindFine f → OutFine (after_kind true t h out f)
-  by_kind (KindGiven.Of k) g = by-sets k (sets_for t h.pic_parameter_set_id) (sets-fine t h.pic_parameter_set_id)
-  by_kind (KindGiven.Refused r) g = (refl, (among-left (2 ∷ 3 ∷ 4 ∷ 13 ∷ []) (8 ∷ 9 ∷ 10 ∷ 25 ∷ 26 ∷ []) r.number g.0, g.1))
+  by_kind : (f : Result UnitKind Refusal) → KindFine f → OutFine (after_kind true t h out f)
+  by_kind (Ok k) g = by-sets k (sets_for t h.pic_parameter_set_id) (sets-fine t h.pic_parameter_set_id)
+  by_kind (Err r) g = (refl, (among-left (2 ∷ 3 ∷ 4 ∷ 13 ∷ []) (8 ∷ 9 ∷ 10 ∷ 25 ∷ 26 ∷ []) r.number g.0, g.1))
 
 module _ (t : Table) (b : ℕ) (x : ExtensionGiven) (h : SliceHeader) (out : List ℕ) where
   fine : Fine out (write_header t b x h out).left (write_header t b x h out).answer
   unfolding write_where
   fine = by_kind t h out (kind_given b x) (kind-fine b x)
 
-  pub refused-with : {r : Refusal} → (write_header t b x h out).answer ≡ HeaderWrote.Refused r → ((write_header t b x h out).left ≡ out) × (T (among numbers r.number) × (r.has_bit ≡ false))
+  pub refused-with : {r : Refusal} → (write_header t b x h out).answer ≡ Err r → ((write_header t b x h out).left ≡ out) × (T (among numbers r.number) × (r.has_bit ≡ false))
   refused-with e = subst (Fine out (write_header t b x h out).left) e fine
 
 -- ---- 26
@@ -157,9 +155,9 @@ not-26 : {P : Type 0} (r : Refusal) (ns : List ℕ) → T (among ns r.number) �
 not-26 r ns g e f = absurd (rw f at (rw e at g))
 
 module _ (t : Table) (h : SliceHeader) (out : List ℕ) where
-  abbrev Long : HeaderWrote → Type 0
-  Long (HeaderWrote.Bits n) = Unit {0}
-  Long (HeaderWrote.Refused r) = r.number ≡ buffer_too_short → TooLong t h out
+  abbrev Long : Result ℕ Refusal → Type 0
+  Long (Ok n) = Unit {0}
+  Long (Err r) = r.number ≡ buffer_too_short → TooLong t h out
 
   some-long : (k : UnitKind) → Long (bits_out true t k h out).answer
   some-long k =
@@ -183,27 +181,27 @@ module _ (t : Table) (h : SliceHeader) (out : List ℕ) where
   bits-long true k = some-long k
   bits-long false k = none-long k
 
-  sets-long : (ok : Bool) (k : UnitKind) (f : SetsFor) → SetsFine f → Long (after_sets ok t k h out f).answer
-  sets-long ok k (SetsFor.There p w s) g = bits-long ok k
-  sets-long ok k (SetsFor.Refused r) g = λ e. not-26 r (8 ∷ 9 ∷ 10 ∷ []) g.0 e refl
+  sets-long : (ok : Bool) (k : UnitKind) (f : Result Sets Refusal) → SetsFine f → Long (after_sets ok t k h out f).answer
+  sets-long ok k (Ok s) g = bits-long ok k
+  sets-long ok k (Err r) g = λ e. not-26 r (8 ∷ 9 ∷ 10 ∷ []) g.0 e refl
 
-  kind-long : (ok : Bool) (f : KindGiven) → KindFine f → Long (after_kind ok t h out f).answer
-  kind-long ok (KindGiven.Of k) g = sets-long ok k (sets_for t h.pic_parameter_set_id) (sets-fine t h.pic_parameter_set_id)
-  kind-long ok (KindGiven.Refused r) g = λ e. not-26 r (2 ∷ 3 ∷ 4 ∷ 13 ∷ []) g.0 e refl
+  kind-long : (ok : Bool) (f : Result UnitKind Refusal) → KindFine f → Long (after_kind ok t h out f).answer
+  kind-long ok (Ok k) g = sets-long ok k (sets_for t h.pic_parameter_set_id) (sets-fine t h.pic_parameter_set_id)
+  kind-long ok (Err r) g = λ e. not-26 r (2 ∷ 3 ∷ 4 ∷ 13 ∷ []) g.0 e refl
 
 -- 26 is given to such a record alone
-pub too_long : (ok : Bool) (t : Table) (b : ℕ) (x : ExtensionGiven) (h : SliceHeader) (out : List ℕ) {r : Refusal} → (write_where ok t b x h out).answer ≡ HeaderWrote.Refused r
+pub too_long : (ok : Bool) (t : Table) (b : ℕ) (x : ExtensionGiven) (h : SliceHeader) (out : List ℕ) {r : Refusal} → (write_where ok t b x h out).answer ≡ Err r
     → r.number ≡ buffer_too_short → TooLong t h out
 unfolding write_where
 too_long ok t b x h out e = subst (Long t h out) e (kind-long t h out ok (kind_given b x) (kind-fine b x))
 
 -- ---- 25
 
-abbrev none : HeaderWrote
-none = HeaderWrote.Refused (refusal no_bits (pos 0))
+abbrev none : Result ℕ Refusal
+none = Err (refusal no_bits (pos 0))
 
 -- a check of others is no 25
-other : {P : Type 0} {r : Refusal} → HeaderWrote.Refused r ≡ none → (ns : List ℕ) → T (among ns r.number) → among ns 25 ≡ false → P
+other : {P : Type 0} {r : Refusal} → Err r ≡ none → (ns : List ℕ) → T (among ns r.number) → among ns 25 ≡ false → P
 other {r = r} e ns g f =
     let i : r ≡ refusal no_bits (pos 0) = (cc e) in
     absurd (rw f at (rw i at g))
@@ -220,7 +218,7 @@ starts-plain b x v p = rw (plain-short (type_in (byte b)) p) (plain v p)
 starts-long : (b : ℕ) (x : ExtensionGiven) (v : List ℕ) → is_extended (byte b) ≡ true → x.there ≡ true → Starts b x (unit_of b x v) v
 starts-long b x v p g = rw p (with-extension v p g)
 
-pub told-starts : (b : ℕ) (x : ExtensionGiven) {k : UnitKind} → kind_given b x ≡ KindGiven.Of k → (v : List ℕ) → Starts b x (unit_of b x v) v
+pub told-starts : (b : ℕ) (x : ExtensionGiven) {k : UnitKind} → kind_given b x ≡ Ok k → (v : List ℕ) → Starts b x (unit_of b x v) v
 unfolding kind_given header_from typed
 told-starts b x q v =
     cases (eqb (forbidden_zero_bit_of b) 0)
@@ -234,18 +232,18 @@ told-starts b x q v =
     (λ i. never-of (rw i at q))
 
 -- the answer is one of the checks up to 25, so neither bits nor 26
-pub record Turned (a : HeaderWrote) : Type 0 where
+pub record Turned (a : Result ℕ Refusal) : Type 0 where
   pub why : Refusal
-  pub is : a ≡ HeaderWrote.Refused why
+  pub is : a ≡ Err why
   pub number : T (among (2 ∷ 3 ∷ 4 ∷ 13 ∷ 8 ∷ 9 ∷ 10 ∷ 25 ∷ []) why.number)
 
 module _ (t : Table) (b : ℕ) (x : ExtensionGiven) (h : SliceHeader) (out : List ℕ) where
-  by-the-kind : {d : Refusal} → kind_given b x ≡ KindGiven.Refused d → (write_header t b x h out).answer ≡ HeaderWrote.Refused d
+  by-the-kind : {d : Refusal} → kind_given b x ≡ Err d → (write_header t b x h out).answer ≡ Err d
   unfolding write_where
   by-the-kind q = rw q
 
-  by-the-sets : {k : UnitKind} {d : Refusal} → kind_given b x ≡ KindGiven.Of k → sets_for t h.pic_parameter_set_id ≡ SetsFor.Refused d
-      → (write_header t b x h out).answer ≡ HeaderWrote.Refused d
+  by-the-sets : {k : UnitKind} {d : Refusal} → kind_given b x ≡ Ok k → sets_for t h.pic_parameter_set_id ≡ Err d
+      → (write_header t b x h out).answer ≡ Err d
   unfolding write_where
   by-the-sets q g = rw (q, g)
 
@@ -254,29 +252,29 @@ module _ (t : Table) (b : ℕ) (x : ExtensionGiven) (h : SliceHeader) (out : Lis
       → (unit_read t (unit_of b x v) scratch).read.answer ≡ UnitAnswer.Slice e → (unit_read t (unit_of b x v) scratch).read.header ≡ h → ⊥
   none_reads w v scratch e a r = kind (kind_given b x) refl (kind-fine b x)
     where
-      sets : {k : UnitKind} → kind_given b x ≡ KindGiven.Of k → (f : SetsFor) → sets_for t h.pic_parameter_set_id ≡ f → SetsFine f → ⊥
-      sets q (SetsFor.There p y z) g i = refused-no-unit t b x h out q (record { picture = p; width = y; sequence = z; are = g }) w (unit_of b x v) v scratch e (told-starts b x q v) a r
-      sets q (SetsFor.Refused d) g i = other (sym (by-the-sets q g) ∙ w) (8 ∷ 9 ∷ 10 ∷ []) i.0 refl
+      sets : {k : UnitKind} → kind_given b x ≡ Ok k → (f : Result Sets Refusal) → sets_for t h.pic_parameter_set_id ≡ f → SetsFine f → ⊥
+      sets q (Ok s) g i = refused-no-unit t b x h out q (record { sets = s; are = g }) w (unit_of b x v) v scratch e (told-starts b x q v) a r
+      sets q (Err d) g i = other (sym (by-the-sets q g) ∙ w) (8 ∷ 9 ∷ 10 ∷ []) i.0 refl
 
-      kind : (f : KindGiven) → kind_given b x ≡ f → KindFine f → ⊥
-      kind (KindGiven.Of k) q i = sets q (sets_for t h.pic_parameter_set_id) refl (sets-fine t h.pic_parameter_set_id)
-      kind (KindGiven.Refused d) q i = other (sym (by-the-kind q) ∙ w) (2 ∷ 3 ∷ 4 ∷ 13 ∷ []) i.0 refl
+      kind : (f : Result UnitKind Refusal) → kind_given b x ≡ f → KindFine f → ⊥
+      kind (Ok k) q i = sets q (sets_for t h.pic_parameter_set_id) refl (sets-fine t h.pic_parameter_set_id)
+      kind (Err d) q i = other (sym (by-the-kind q) ∙ w) (2 ∷ 3 ∷ 4 ∷ 13 ∷ []) i.0 refl
 
   -- and where no bits read to the record, it is given, unless a check before it is
   pub unread-turned : ((k : UnitKind) (s : Bits) (e : ℕ) → read_header t k s ≡ got h e → ⊥) → Turned (write_header t b x h out).answer
   unread-turned n = kind (kind_given b x) refl (kind-fine b x)
     where
-      sets : {k : UnitKind} → kind_given b x ≡ KindGiven.Of k → (f : SetsFor) → sets_for t h.pic_parameter_set_id ≡ f → SetsFine f → Turned (write_header t b x h out).answer
-      sets {k} q (SetsFor.There p y z) g i =
-          let f : Found t h.pic_parameter_set_id = record { picture = p; width = y; sequence = z; are = g } in
+      sets : {k : UnitKind} → kind_given b x ≡ Ok k → (f : Result Sets Refusal) → sets_for t h.pic_parameter_set_id ≡ f → SetsFine f → Turned (write_header t b x h out).answer
+      sets {k} q (Ok s) g i =
+          let f : Found t h.pic_parameter_set_id = record { sets = s; are = g } in
           record { why = refusal no_bits (pos 0); is = ap (λ (o : HeaderOut). o.answer) (unread-refused t b x h out q f (n k)); number = tt }
-      sets q (SetsFor.Refused d) g i =
+      sets q (Err d) g i =
           record {
             why = d;
             is = by-the-sets q g;
             number = among-right (2 ∷ 3 ∷ 4 ∷ 13 ∷ []) (8 ∷ 9 ∷ 10 ∷ 25 ∷ []) d.number (among-left (8 ∷ 9 ∷ 10 ∷ []) (25 ∷ []) d.number i.0);
           }
 
-      kind : (f : KindGiven) → kind_given b x ≡ f → KindFine f → Turned (write_header t b x h out).answer
-      kind (KindGiven.Of k) q i = sets q (sets_for t h.pic_parameter_set_id) refl (sets-fine t h.pic_parameter_set_id)
-      kind (KindGiven.Refused d) q i = record { why = d; is = by-the-kind q; number = among-left (2 ∷ 3 ∷ 4 ∷ 13 ∷ []) (8 ∷ 9 ∷ 10 ∷ 25 ∷ []) d.number i.0 }
+      kind : (f : Result UnitKind Refusal) → kind_given b x ≡ f → KindFine f → Turned (write_header t b x h out).answer
+      kind (Ok k) q i = sets q (sets_for t h.pic_parameter_set_id) refl (sets-fine t h.pic_parameter_set_id)
+      kind (Err d) q i = record { why = d; is = by-the-kind q; number = among-left (2 ∷ 3 ∷ 4 ∷ 13 ∷ []) (8 ∷ 9 ∷ 10 ∷ 25 ∷ []) d.number i.0 }

@@ -23,14 +23,14 @@ use Rattle.unit.specs.declared.answer.UnitAnswer.{UnitAnswer}
 use Rattle.unit.specs.Answer.{slice_answer}
 use Rattle.unit.specs.Unit.{unit_read}
 use Rattle.writer.specs.declared.given.ExtensionGiven.{ExtensionGiven}
-use Rattle.writer.specs.declared.given.KindGiven.{KindGiven}
-use Rattle.writer.specs.declared.write.HeaderWrote.{HeaderWrote}
 use Rattle.writer.specs.Given.{kind_given}
 use Rattle.writer.specs.Write.{HeaderOut, untouched, write_header}
 use Rattle.writer.proofs.Passed.{Found, sets-found, not-scalable}
 use Rattle.writer.proofs.Answers.{wrote, goes_on, out_none, out-bits, good-written}
 use Rattle.writer.proofs.Room.{room-bits}
 use Rattle.writer.proofs.Units.{Starts, begins, tells, starts, first_of, extension_in, body_of, starts-body, body_bits, slice-reads, slice-read}
+use Rattle.std.specs.Prelude.{Result, Ok, Err}
+use Rattle.bits.specs.declared.refusals.Refusal.{Refusal}
 
 -- bits put at the front stand there
 front-bits : (d : List ℕ) (l : Bits) → length l ≤ length (bits_of d) → take (length l) (bits_of (put_bits d 0 l)) ≡ l
@@ -40,12 +40,12 @@ front-bits d l room =
 -- ---- what is written reads back
 
 module _ (t : Table) (b : ℕ) (x : ExtensionGiven) (h : SliceHeader) (out : List ℕ) {n : ℕ} {left : List ℕ}
-    (w : write_header t b x h out ≡ record { answer = HeaderWrote.Bits n; left = left }) where
+    (w : write_header t b x h out ≡ record { answer = Ok n; left = left }) where
   -- the first n bits of the buffer are the header's
-  pub written-bits : {k : UnitKind} → kind_given b x ≡ KindGiven.Of k → take n (bits_of left) ≡ (header t k).bits h
+  pub written-bits : {k : UnitKind} → kind_given b x ≡ Ok k → take n (bits_of left) ≡ (header t k).bits h
   written-bits {k} q =
       let y = wrote t b x h out w in
-      let a : KindGiven.Of y.kind ≡ KindGiven.Of k = sym y.is-kind ∙ q in
+      let a : Ok y.kind ≡ Ok k = sym y.is-kind ∙ q in
       let i : y.kind ≡ k = (cc a) in
       (λ j. take (y.size j) (bits_of (y.left_is j))) ∙ front-bits out _ y.room ∙ ap (λ (m : UnitKind). (header t m).bits h) i
 
@@ -68,7 +68,7 @@ module _ (t : Table) (b : ℕ) (x : ExtensionGiven) (h : SliceHeader) (out : Lis
 module _ (t : Table) (u scratch : List ℕ) (h : SliceHeader) (e : ℕ) (a : (unit_read t u scratch).read.answer ≡ UnitAnswer.Slice e) (r : (unit_read t u scratch).read.header ≡ h) where
   -- for a first byte and an extension that the unit starts with
   pub rewrites-as : (b : ℕ) (x : ExtensionGiven) (v out : List ℕ) → Starts b x u v → bytes_for e ≤ length out
-      → write_header t b x h out ≡ record { answer = HeaderWrote.Bits e; left = put_bits out 0 (take e (body_bits v)) }
+      → write_header t b x h out ≡ record { answer = Ok e; left = put_bits out 0 (take e (body_bits v)) }
   rewrites-as b x v out s room =
       let y = slice-read t u scratch a r in
       let k = y.kind in
@@ -78,14 +78,14 @@ module _ (t : Table) (u scratch : List ℕ) (h : SliceHeader) (e : ℕ) (a : (un
       let few = header-most t k h z.is-good in
       goes_on t b x h out d.0 (sets-found t k h z.is-good)
       ∙ out-bits t k h out z.is-good (room-bits out _ few (rw z.size at room))
-      ∙ (λ j. record { answer = HeaderWrote.Bits (sym z.size j); left = put_bits out 0 (sym l j) })
+      ∙ (λ j. record { answer = Ok (sym z.size j); left = put_bits out 0 (sym l j) })
 
   -- for its own first byte and extension: the answer is e bits, and the first e bits of the body stand at the front of the buffer
   pub rewrites : (out : List ℕ) → bytes_for e ≤ length out
-      → write_header t (first_of u) (extension_in u) h out ≡ record { answer = HeaderWrote.Bits e; left = put_bits out 0 (take e (body_bits (body_of u))) }
+      → write_header t (first_of u) (extension_in u) h out ≡ record { answer = Ok e; left = put_bits out 0 (take e (body_bits (body_of u))) }
   rewrites out room =
       let s = starts u (slice-read t u scratch a r).is in
-      rewrites-as (first_of u) (extension_in u) _ out s room ∙ ap (λ (v : List ℕ). record { answer = HeaderWrote.Bits e; left = put_bits out 0 (take e (body_bits v)) }) (starts-body s)
+      rewrites-as (first_of u) (extension_in u) _ out s room ∙ ap (λ (v : List ℕ). record { answer = Ok e; left = put_bits out 0 (take e (body_bits v)) }) (starts-body s)
 
   -- and so they are the first e bits that it holds
   pub rewritten-bits : (out : List ℕ) → bytes_for e ≤ length out → take e (bits_of (write_header t (first_of u) (extension_in u) h out).left) ≡ take e (body_bits (body_of u))
@@ -102,9 +102,9 @@ module _ (t : Table) (u scratch : List ℕ) (h : SliceHeader) (e : ℕ) (a : (un
 -- ---- 25
 
 -- the checks before it are passed
-module _ (t : Table) (b : ℕ) (x : ExtensionGiven) (h : SliceHeader) (out : List ℕ) {k : UnitKind} (q : kind_given b x ≡ KindGiven.Of k) (f : Found t h.pic_parameter_set_id) where
-  abbrev refused : HeaderWrote
-  refused = HeaderWrote.Refused (refusal no_bits (pos 0))
+module _ (t : Table) (b : ℕ) (x : ExtensionGiven) (h : SliceHeader) (out : List ℕ) {k : UnitKind} (q : kind_given b x ≡ Ok k) (f : Found t h.pic_parameter_set_id) where
+  abbrev refused : Result ℕ Refusal
+  refused = Err (refusal no_bits (pos 0))
 
   -- where it is given, no bits read to the record
   pub refused-unread : (write_header t b x h out).answer ≡ refused → (s : Bits) (e : ℕ) → read_header t k s ≡ got h e → ⊥
@@ -119,7 +119,7 @@ module _ (t : Table) (b : ℕ) (x : ExtensionGiven) (h : SliceHeader) (out : Lis
       let y = slice-read t u scratch a r in
       let z = syntax.rewrites t y.kind _ h e y.reads in
       let d = tells s y.is (not-scalable t y.kind h z.is-good) in
-      let j : KindGiven.Of y.kind ≡ KindGiven.Of k = sym d.0 ∙ q in
+      let j : Ok y.kind ≡ Ok k = sym d.0 ∙ q in
       let i : y.kind ≡ k = (cc j) in
       refused-unread w _ e (subst (λ (n : UnitKind). read_header t n (body_bits (drop y.from u)) ≡ got h e) i y.reads)
 

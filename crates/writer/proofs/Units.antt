@@ -12,7 +12,6 @@ use Rattle.bits.specs.Bits.{Bits, bytes_bits}
 use Rattle.bits.specs.declared.refusals.Refusal.{Refusal}
 use Rattle.bits.proofs.Results.{cases}
 use Rattle.nal.specs.declared.header.NalHeader.{NalHeader}
-use Rattle.nal.specs.declared.header.NalHeaderRead.{NalHeaderRead}
 use Rattle.nal.specs.declared.extension.NalHeaderExtension.{NalHeaderExtension}
 use Rattle.nal.specs.Header.{forbidden_zero_bit_of, header_from, header_of}
 use Rattle.nal.specs.Extension.{extension_from, extension_of}
@@ -36,9 +35,9 @@ use Rattle.unit.specs.Begin.{absent_extension, type_in, is_plain, has_extension,
 use Rattle.unit.specs.Unit.{in_body, slice_bits, prefix_bits, sequence_bits, picture_bits, after_begin, unit_read}
 use Rattle.unit.proofs.Cases.{begun-small}
 use Rattle.writer.specs.declared.given.ExtensionGiven.{ExtensionGiven}
-use Rattle.writer.specs.declared.given.KindGiven.{KindGiven}
 use Rattle.writer.specs.Given.{with_extension, kind_given}
 use Rattle.writer.specs.Given as goal
+use Rattle.std.specs.Prelude.{Ok, Err}
 
 abbrev pub byte : ℕ → NalHeader
 byte b = record { 0 = b }
@@ -70,7 +69,7 @@ pub plain-short : (t : ℕ) → is_plain t ≡ true → (eqb t 20 || eqb t 21) �
 plain-short t e = by-type (λ (i : ℕ). (eqb i 20 || eqb i 21) ≡ false) 1 5 t e refl refl
 
 -- a refusal is no kind
-pub never-of : {P : Type 0} {r : Refusal} {k : UnitKind} → KindGiven.Refused r ≡ KindGiven.Of k → P
+pub never-of : {P : Type 0} {r : Refusal} {k : UnitKind} → Err r ≡ Ok k → P
 never-of q = absurd (let z : ◌≡◌ {A = ℕ} 0 1 = (cc q) in omega arith)
 
 -- what begins as something else is no slice
@@ -98,15 +97,15 @@ module _ (b : ℕ) (x : ExtensionGiven) where
   h = byte b
 
   -- the first byte is not refused
-  heard : {k : UnitKind} → kind_given b x ≡ KindGiven.Of k → header_from b ≡ NalHeaderRead.Got h
+  heard : {k : UnitKind} → kind_given b x ≡ Ok k → header_from b ≡ Ok h
   unfolding kind_given header_from
   heard q = cases (eqb (forbidden_zero_bit_of b) 0) (λ i. rw i) (λ i. never-of (rw i at q))
 
-  begun-at : (w : List ℕ) → length (b ∷ w) ≤ limit → header_from b ≡ NalHeaderRead.Got h → begun (b ∷ w) ≡ typed (b ∷ w) h
+  begun-at : (w : List ℕ) → length (b ∷ w) ≤ limit → header_from b ≡ Ok h → begun (b ∷ w) ≡ typed (b ∷ w) h
   unfolding begun header_of
   begun-at w s q = rw (le-leb (length (b ∷ w)) limit s, q)
 
-  told_at : header_from b ≡ NalHeaderRead.Got h → kind_given b x ≡ goal.typed h x
+  told_at : header_from b ≡ Ok h → kind_given b x ≡ goal.typed h x
   unfolding kind_given
   told_at q = rw q
 
@@ -115,7 +114,7 @@ module _ (b : ℕ) (x : ExtensionGiven) where
   unfolding typed
   plain-begun w p = rw p
 
-  plain-told : is_plain (type_in h) ≡ true → goal.typed h x ≡ KindGiven.Of (kind_of h absent_extension)
+  plain-told : is_plain (type_in h) ≡ true → goal.typed h x ≡ Ok (kind_of h absent_extension)
   unfolding goal.typed
   plain-told p = rw p
 
@@ -131,17 +130,17 @@ module _ (b : ℕ) (x : ExtensionGiven) where
   long-told p g = rw ((types-extended (type_in h) p).not_plain, p, g)
 
   -- the extension's top bit is clear
-  mvc-kind : (y : NalHeaderExtension) {k : UnitKind} → with_extension h y ≡ KindGiven.Of k → kind_of h y ≡ k
+  mvc-kind : (y : NalHeaderExtension) {k : UnitKind} → with_extension h y ≡ Ok k → kind_of h y ≡ k
   mvc-kind (NalHeaderExtension.Mvc m) q = (cc q)
   mvc-kind (NalHeaderExtension.Svc v) q = never-of q
 
-  kind-mvc : (y : NalHeaderExtension) → is_extended h ≡ true → (kind_of h y).svc ≡ false → with_extension h y ≡ KindGiven.Of (kind_of h y)
+  kind-mvc : (y : NalHeaderExtension) → is_extended h ≡ true → (kind_of h y).svc ≡ false → with_extension h y ≡ Ok (kind_of h y)
   unfolding kind_of
   kind-mvc (NalHeaderExtension.Mvc m) p s = refl
   kind-mvc (NalHeaderExtension.Svc v) p s = absurd (true≢false (rw p at s))
 
   -- a unit that is read starts with a first byte
-  heard-first : (w : List ℕ) {k : UnitKind} {from : ℕ} → length (b ∷ w) ≤ limit → begun (b ∷ w) ≡ Begun.Slice k from → header_from b ≡ NalHeaderRead.Got h
+  heard-first : (w : List ℕ) {k : UnitKind} {from : ℕ} → length (b ∷ w) ≤ limit → begun (b ∷ w) ≡ Begun.Slice k from → header_from b ≡ Ok h
   unfolding begun header_of header_from
   heard-first w s q = cases (eqb (forbidden_zero_bit_of b) 0) (λ i. rw i) (λ i. never-slice (rw (le-leb (length (b ∷ w)) limit s, i) at q) refl)
 
@@ -152,10 +151,10 @@ pub record Begins (u w : List ℕ) (k : UnitKind) : Type 0 where
   pub rest : drop from u ≡ w
 
 -- what is told of a unit is how it begins
-pub begins : {b : ℕ} {x : ExtensionGiven} {u w : List ℕ} {k : UnitKind} → Starts b x u w → kind_given b x ≡ KindGiven.Of k → length u ≤ limit → Begins u w k
+pub begins : {b : ℕ} {x : ExtensionGiven} {u w : List ℕ} {k : UnitKind} → Starts b x u w → kind_given b x ≡ Ok k → length u ≤ limit → Begins u w k
 begins {b} {x} {k = k} (plain w p) q s =
     let g = heard b x q in
-    let a : KindGiven.Of (kind_of (byte b) absent_extension) ≡ KindGiven.Of k = sym (plain-told b x p) ∙ sym (told_at b x g) ∙ q in
+    let a : Ok (kind_of (byte b) absent_extension) ≡ Ok k = sym (plain-told b x p) ∙ sym (told_at b x g) ∙ q in
     let i : kind_of (byte b) absent_extension ≡ k = (cc a) in
     record { from = 1; is = begun-at b x w s g ∙ plain-begun b x w p ∙ ap (λ (n : UnitKind). Begun.Slice n 1) i; rest = refl }
 begins {b} {x} {k = k} (with-extension w p y) q s =
@@ -165,14 +164,14 @@ begins {b} {x} {k = k} (with-extension w p y) q s =
 
 -- and how it begins is what is told, but of scalable slices
 pub tells : {b : ℕ} {x : ExtensionGiven} {u w : List ℕ} {k : UnitKind} {from : ℕ} → Starts b x u w → begun u ≡ Begun.Slice k from → k.svc ≡ false
-    → (kind_given b x ≡ KindGiven.Of k) × (drop from u ≡ w)
+    → (kind_given b x ≡ Ok k) × (drop from u ≡ w)
 tells {b} {x} {k = k} {from = from} (plain w p) q s =
     let z = begun-small (b ∷ w) (Begun.Slice k from) (sym q) refl in
     let g = heard-first b x w z q in
     let a : Begun.Slice (kind_of (byte b) absent_extension) 1 ≡ Begun.Slice k from = sym (plain-begun b x w p) ∙ sym (begun-at b x w z g) ∙ q in
     let i : kind_of (byte b) absent_extension ≡ k = (cc a) in
     let j : 1 ≡ from = (cc a) in
-    (told_at b x g ∙ plain-told b x p ∙ ap KindGiven.Of i, rw (← j))
+    (told_at b x g ∙ plain-told b x p ∙ ap Ok i, rw (← j))
 tells {b} {x} {k = k} {from = from} (with-extension w p y) q s =
     let e : NalHeaderExtension = extension_from x.b1 x.b2 x.b3 in
     let z = begun-small (b ∷ x.b1 ∷ x.b2 ∷ x.b3 ∷ w) (Begun.Slice k from) (sym q) refl in
@@ -180,7 +179,7 @@ tells {b} {x} {k = k} {from = from} (with-extension w p y) q s =
     let a : Begun.Slice (kind_of (byte b) e) 4 ≡ Begun.Slice k from = sym (long-begun b x w p) ∙ sym (begun-at b x _ z g) ∙ q in
     let i : kind_of (byte b) e ≡ k = (cc a) in
     let j : 4 ≡ from = (cc a) in
-    (told_at b x g ∙ long-told b x p y ∙ kind-mvc b x e p (ap (λ (n : UnitKind). n.svc) i ∙ s) ∙ ap KindGiven.Of i, rw (← j))
+    (told_at b x g ∙ long-told b x p y ∙ kind-mvc b x e p (ap (λ (n : UnitKind). n.svc) i ∙ s) ∙ ap Ok i, rw (← j))
 
 -- ---- a unit's own first byte and extension
 

@@ -16,8 +16,8 @@ use Rattle.syntax.specs.declared.record.SliceHeader.{SliceHeader}
 use Rattle.syntax.specs.SliceHeader.{slice_type, modifications, pred_weight_table, dec_ref_pic_marking, quantiser, filter, Parts, parts, of_header}
 use Rattle.header.specs.Short.{HeaderWords}
 use Rattle.record.specs.Record.{header_from, plain}
-use Rattle.writer.specs.declared.write.HeaderWrote.{HeaderWrote}
 use Rattle.writer.specs.Write.{HeaderOut, untouched, out_of}
+use Rattle.std.specs.Prelude.{Ok}
 
 -- first_mb_in_slice, slice_type, and a pic_parameter_set_id that has been looked up
 abbrev pub known_lead : Fmt (ℕ × (ℕ × ℕ))
@@ -49,5 +49,5 @@ known_out x w out = out_of (written (plain w && is_known x (header_from w)) ((fi
 -- the bytes of the first n bits of d go to the front of the buffer: 26 where there is no room for them
 unfoldable pub copied : List ℕ → ℕ → List ℕ → HeaderOut
 copied d n out =
-    pick (leb (bytes_for n) (length out)) (record { answer = HeaderWrote.Bits n; left = start_with (take (bytes_for n) d) out })
+    pick (leb (bytes_for n) (length out)) (record { answer = Ok n; left = start_with (take (bytes_for n) d) out })
     (untouched (refusal buffer_too_short (pos (bytes_for n))) out)

@@ -1,42 +1,35 @@
 -- Writing a slice header into a lent buffer, as docs/RULES.md has it ('Refusal numbers', 'The writer').
 use Rattle.std.specs.Prelude.{ℕ, List, Bool, true, ◌&&◌, leb, ℤ, pos}
 use Rattle.bits.specs.Refusals.{pick, refusal}
-use Rattle.bits.specs.Answers.{none}
 use Rattle.bits.specs.Put.{Written, written}
 use Rattle.bits.specs.declared.refusals.Refusal.{Refusal}
-use Rattle.bits.specs.declared.put.Wrote.{Wrote}
 use Rattle.table.specs.declared.sets.Picture.{Picture}
 use Rattle.table.specs.declared.table.Table.{Table}
-use Rattle.table.specs.declared.words.FoundPicture.{FoundPicture}
-use Rattle.table.specs.declared.words.FoundSequence.{FoundSequence}
-use Rattle.table.specs.Tables.{picture_at, sequence_at}
+use Rattle.table.specs.Tables.{found_picture, picture_at, sequence_at}
 use Rattle.syntax.specs.declared.context.UnitKind.{UnitKind}
 use Rattle.syntax.specs.declared.record.SliceHeader.{SliceHeader}
 use Rattle.syntax.specs.SliceHeader.{header}
 use Rattle.header.specs.Short.{HeaderWords}
 use Rattle.record.specs.Record.{header_from, plain}
 use Rattle.writer.specs.declared.given.ExtensionGiven.{ExtensionGiven}
-use Rattle.writer.specs.declared.given.KindGiven.{KindGiven}
-use Rattle.writer.specs.declared.sets.SetsFor.{SetsFor}
-use Rattle.writer.specs.declared.write.HeaderWrote.{HeaderWrote}
 use Rattle.writer.specs.Given.{kind_given}
+use Rattle.std.specs.Prelude.{Result, Ok, Err, Option, Some, None}
+use Rattle.bits.specs.declared.read.Cursor.{Cursor}
+use Rattle.table.specs.declared.sets.Sequence.{Sequence}
+use Rattle.writer.specs.declared.sets.Sets.{Sets}
 
 -- ---- 8, 9 and 10, with the values that reading has
 
-abbrev pub with_sequence : Picture → ℕ → FoundSequence → SetsFor
-with_sequence p w (FoundSequence.There s) = SetsFor.There p w s
-with_sequence p w FoundSequence.Absent = SetsFor.Refused (refusal 10 (pos p.seq_parameter_set_id))
+abbrev pub with_sequence : Picture → ℕ → Option Sequence → Result Sets Refusal
+with_sequence p w (Some s) = Ok (record { picture = p; cycle_width = w; sequence = s })
+with_sequence p w None = Err (refusal 10 (pos p.seq_parameter_set_id))
 
-abbrev pub with_picture : Table → ℕ → FoundPicture → SetsFor
-with_picture t id (FoundPicture.There p w) = with_sequence p w (sequence_at t p.seq_parameter_set_id)
-with_picture t id FoundPicture.Absent = SetsFor.Refused (refusal 9 (pos id))
+abbrev pub with_picture : Table → ℕ → Option (Picture × ℕ) → Result Sets Refusal
+with_picture t id (found_picture p w) = with_sequence p w (sequence_at t p.seq_parameter_set_id)
+with_picture t id None = Err (refusal 9 (pos id))
 
-unfoldable pub sets_for : Table → ℕ → SetsFor
-sets_for t id = pick (leb id 255) (with_picture t id (picture_at t id)) (SetsFor.Refused (refusal 8 (pos id)))
-
-abbrev pub why_sets : SetsFor → Refusal
-why_sets (SetsFor.There p w s) = none
-why_sets (SetsFor.Refused r) = r
+unfoldable pub sets_for : Table → ℕ → Result Sets Refusal
+sets_for t id = pick (leb id 255) (with_picture t id (picture_at t id)) (Err (refusal 8 (pos id)))
 
 -- ---- the header
 
@@ -46,17 +39,17 @@ held_words numbers signed l0 l1 marking w0 w1 = record { numbers = numbers; sign
 
 -- the answer, and the buffer at exit
 pub record HeaderOut : Type 0 where
-  pub answer : HeaderWrote
+  pub answer : Result ℕ Refusal
   pub left : List ℕ
 
 -- a refusal, which leaves the buffer as it was
 abbrev pub untouched : Refusal → List ℕ → HeaderOut
-untouched r out = record { answer = HeaderWrote.Refused r; left = out }
+untouched r out = record { answer = Err r; left = out }
 
 -- the answer is the place after the header's bits: how many they are
-abbrev pub wrote_of : Wrote → HeaderWrote
-wrote_of (Wrote.At c) = HeaderWrote.Bits c.at
-wrote_of (Wrote.Refused r) = HeaderWrote.Refused r
+abbrev pub wrote_of : Result Cursor Refusal → Result ℕ Refusal
+wrote_of (Ok c) = Ok c.at
+wrote_of (Err r) = Err r
 
 abbrev pub out_of : Written → HeaderOut
 out_of w = record { answer = wrote_of w.answer; left = w.left }
@@ -65,13 +58,13 @@ out_of w = record { answer = wrote_of w.answer; left = w.left }
 unfoldable pub bits_out : Bool → Table → UnitKind → SliceHeader → List ℕ → HeaderOut
 bits_out ok t n h out = out_of (written (ok && (header t n).good h) ((header t n).bits h) out 0)
 
-abbrev pub after_sets : Bool → Table → UnitKind → SliceHeader → List ℕ → SetsFor → HeaderOut
-after_sets ok t n h out (SetsFor.There p w s) = bits_out ok t n h out
-after_sets ok t n h out (SetsFor.Refused r) = untouched r out
+abbrev pub after_sets : Bool → Table → UnitKind → SliceHeader → List ℕ → Result Sets Refusal → HeaderOut
+after_sets ok t n h out (Ok s) = bits_out ok t n h out
+after_sets ok t n h out (Err r) = untouched r out
 
-abbrev pub after_kind : Bool → Table → SliceHeader → List ℕ → KindGiven → HeaderOut
-after_kind ok t h out (KindGiven.Of n) = after_sets ok t n h out (sets_for t h.pic_parameter_set_id)
-after_kind ok t h out (KindGiven.Refused r) = untouched r out
+abbrev pub after_kind : Bool → Table → SliceHeader → List ℕ → Result UnitKind Refusal → HeaderOut
+after_kind ok t h out (Ok n) = after_sets ok t n h out (sets_for t h.pic_parameter_set_id)
+after_kind ok t h out (Err r) = untouched r out
 
 -- a first byte, an extension or none, and the record, where there is one, by the table
 unfoldable pub write_where : Bool → Table → ℕ → ExtensionGiven → SliceHeader → List ℕ → HeaderOut

@@ -3,7 +3,6 @@
 
 pub mod given; // the extension given, and what it and the first byte say of the unit
 mod sets; // the sets that the record's picture set id names
-mod places; // places in the buffer, handed along
 mod marks; // every single field, as it is, tested, or there only under a condition
 mod frame; // colour_plane_id to idr_pic_id
 mod order; // pic_order_cnt_lsb to redundant_pic_cnt

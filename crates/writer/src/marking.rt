@@ -18,7 +18,7 @@ pub(crate) fn put_marking(
     x: Context,
     numbers: &[u32; 57],
     words: &[u32; 198],
-) -> Cursor
+) -> Option<Cursor>
     requires { number_in numbers.now 45 ≤ 66 }
     ensures { PutTo (dec_ref_pic_marking x) (marking_from numbers.now words.now) d.old c.at d.new result }
 {
@@ -26,8 +26,8 @@ pub(crate) fn put_marking(
     let no_output = flag_of(numbers[39], numbers[40]);
     let long_term = flag_of(numbers[41], numbers[42]);
     let adaptive = flag_of(numbers[43], numbers[44]);
-    let c1 = put_flag_if(d, c, idr, no_output);
-    let c2 = put_flag_if(d, c1, idr, long_term);
-    let c3 = put_flag_if(d, c2, both(x.kind.reference, !x.kind.idr), adaptive);
+    let c1 = put_flag_if(d, c, idr, no_output)?;
+    let c2 = put_flag_if(d, c1, idr, long_term)?;
+    let c3 = put_flag_if(d, c2, both(x.kind.reference, !x.kind.idr), adaptive)?;
     put_operations_if(d, c3, adaptive.value, numbers[45], words, marking_kind())
 }

@@ -6,7 +6,6 @@ ghost use Rattle.record.specs.Entries.{operations_from};
 ghost use Rattle.writer.specs.Places.{PutTo};
 
 use crate::marks::{put_given, put_tested};
-use crate::places::NOWHERE;
 use bits::read::Cursor;
 use lists::operations::{ListKind, has_first, has_second};
 
@@ -18,10 +17,10 @@ fn put_operands(
     code: u32,
     first: u32,
     second: u32,
-) -> Cursor
+) -> Option<Cursor>
     ensures { PutTo (operands (kind_of kind) code) (first, second) d.old c.at d.new result }
 {
-    let next = put_given(d, c, has_first(kind, code), first);
+    let next = put_given(d, c, has_first(kind, code), first)?;
     put_given(d, next, has_second(kind, code), second)
 }
 
@@ -32,21 +31,19 @@ pub(crate) fn put_operations(
     count: u32,
     words: &[u32; 198],
     kind: ListKind,
-) -> Cursor
+) -> Option<Cursor>
     requires { count ≤ 66 }
     ensures { PutTo (operations (kind_of kind)) (operations_from count words.now) d.old c.at d.new result }
 {
-    let mut i: u32 = 0;
     let mut at = c;
-    while i < count {
+    for i in 0..count {
         let k = 3 * (i as usize);
         let code = words[k];
         if code == kind.closing as u32 {
-            return Cursor { at: NOWHERE };
+            return None;
         }
-        let next = put_tested(d, at, code, kind.greatest as u32, kind.number);
-        at = put_operands(d, next, kind, code, words[k + 1], words[k + 2]);
-        i += 1;
+        let next = put_tested(d, at, code, kind.greatest as u32, kind.number)?;
+        at = put_operands(d, next, kind, code, words[k + 1], words[k + 2])?;
     }
     put_tested(
         d,
@@ -65,16 +62,12 @@ pub(crate) fn put_operations_if(
     count: u32,
     words: &[u32; 198],
     kind: ListKind,
-) -> Cursor
+) -> Option<Cursor>
     requires { count ≤ 66 }
     ensures { PutTo (operations_if there (kind_of kind)) (operations_from count words.now) d.old c.at d.new result }
 {
     if there {
         return put_operations(d, c, count, words, kind);
     }
-    if count == 0 {
-        c
-    } else {
-        Cursor { at: NOWHERE }
-    }
+    if count == 0 { Some(c) } else { None }
 }

@@ -17,13 +17,11 @@ fn is_plain_weights(count: u32, words: &[i32; 256]) -> bool
     requires { count ≤ 32 }
     ensures { result ≡ plain_weights count words.now }
 {
-    let mut i: u32 = 0;
-    while i < count {
+    for i in 0..count {
         let k = 8 * (i as usize);
         if !both(is_bit(words[k]), is_bit(words[k + 3])) {
             return false;
         }
-        i += 1;
     }
     true
 }

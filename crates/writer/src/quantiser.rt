@@ -15,13 +15,13 @@ pub(crate) fn put_quantiser(
     x: Context,
     slice_type: u32,
     q: Quantiser,
-) -> Cursor
+) -> Option<Cursor>
     ensures { PutTo (quantiser x slice_type) q d.old c.at d.new result }
 {
-    let c1 = put_number_if(d, c, has_cabac(x, slice_type), q.cabac_init_idc);
-    let c2 = put_qp(d, c1, q.slice_qp_delta, x);
+    let c1 = put_number_if(d, c, has_cabac(x, slice_type), q.cabac_init_idc)?;
+    let c2 = put_qp(d, c1, q.slice_qp_delta, x)?;
     let sp = is_type(slice_type, SP);
-    let c3 = put_flag_if(d, c2, sp, q.sp_for_switch_flag);
+    let c3 = put_flag_if(d, c2, sp, q.sp_for_switch_flag)?;
     let switching = either(sp, is_type(slice_type, SI));
     put_qs_if(d, c3, switching, q.slice_qs_delta, x)
 }

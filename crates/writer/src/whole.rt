@@ -24,19 +24,26 @@ use syntax::context::Context;
 use syntax::record::{Filter, Quantiser};
 
 // first_mb_in_slice to pic_parameter_set_id, which has been looked up.
-fn put_lead(d: &mut [u8], first_mb: u32, slice_type: u32, picture: u32) -> Cursor
+fn put_lead(d: &mut [u8], first_mb: u32, slice_type: u32, picture: u32) -> Option<Cursor>
     ensures { PutTo known_lead (first_mb, (slice_type, picture)) d.old 0 d.new result }
 {
-    let c1 = put_number(d, Cursor { at: 0 }, first_mb);
-    let c2 = put_tested(d, c1, slice_type, 9, SLICE_TYPE);
+    let c1 = put_number(d, Cursor { at: 0 }, first_mb)?;
+    let c2 = put_tested(d, c1, slice_type, 9, SLICE_TYPE)?;
     put_number(d, c2, picture)
 }
 
 // cabac_init_idc to slice_group_change_cycle.
-fn put_back(d: &mut [u8], c: Cursor, x: Context, slice_type: u32, q: Quantiser, f: Filter) -> Cursor
+fn put_back(
+    d: &mut [u8],
+    c: Cursor,
+    x: Context,
+    slice_type: u32,
+    q: Quantiser,
+    f: Filter,
+) -> Option<Cursor>
     ensures { PutTo (back x slice_type) (q, f) d.old c.at d.new result }
 {
-    let c1 = put_quantiser(d, c, x, slice_type, q);
+    let c1 = put_quantiser(d, c, x, slice_type, q)?;
     put_filter(d, c1, x, f)
 }
 
@@ -54,14 +61,14 @@ fn put_middle(
     marking: &[u32; 198],
     w0: &[i32; 256],
     w1: &[i32; 256],
-) -> Cursor
+) -> Option<Cursor>
     requires { plain_numbers numbers.now ≡ true }
     ensures { PutTo (middle x (number_in numbers.now 1) n0 n1) (of_header (header_from (held_words numbers.now signed.now l0.now l1.now marking.now w0.now w1.now))).1.1.1.1 d.old c.at d.new result }
 {
     let slice_type = numbers[1];
-    let c1 = put_modifications(d, c, x, slice_type, numbers, l0, l1);
-    let c2 = put_pred_weight_table(d, c1, x, slice_type, n0, n1, numbers, w0, w1);
-    let c3 = put_marking(d, c2, x, numbers, marking);
+    let c1 = put_modifications(d, c, x, slice_type, numbers, l0, l1)?;
+    let c2 = put_pred_weight_table(d, c1, x, slice_type, n0, n1, numbers, w0, w1)?;
+    let c3 = put_marking(d, c2, x, numbers, marking)?;
     let q = quantiser_of(numbers, signed);
     let f = filter_of(numbers, signed);
     put_back(d, c3, x, slice_type, q, f)
@@ -78,18 +85,18 @@ pub(crate) fn put_header(
     marking: &[u32; 198],
     w0: &[i32; 256],
     w1: &[i32; 256],
-) -> Cursor
+) -> Option<Cursor>
     requires num_ref_idx_l0_default_active_minus1_bound { (x.picture.num_ref_idx_l0_default_active_minus1 ≤ 31) × (x.picture.num_ref_idx_l1_default_active_minus1 ≤ 31) }
     requires plain { plain_numbers numbers.now ≡ true }
     ensures { PutTo (fields x) (of_header (header_from (held_words numbers.now signed.now l0.now l1.now marking.now w0.now w1.now))) d.old 0 d.new result }
 {
     let slice_type = numbers[1];
-    let c1 = put_lead(d, numbers[0], slice_type, numbers[2]);
-    let c2 = put_frame(d, c1, x, frame_of(numbers));
+    let c1 = put_lead(d, numbers[0], slice_type, numbers[2])?;
+    let c2 = put_frame(d, c1, x, frame_of(numbers))?;
     let o = order_count_of(numbers, signed);
-    let c3 = put_order_count(d, c2, x, numbers[8] != 0, o);
+    let c3 = put_order_count(d, c2, x, numbers[8] != 0, o)?;
     let a = active_counts_of(numbers);
-    let c4 = put_active_counts(d, c3, slice_type, a);
+    let c4 = put_active_counts(d, c3, slice_type, a)?;
     let n0 = active(
         a.num_ref_idx_l0_active_minus1,
         x.picture.num_ref_idx_l0_default_active_minus1,

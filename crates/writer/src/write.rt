@@ -5,38 +5,29 @@ ghost use Rattle.record.specs.Record.{plain_numbers, header_from};
 ghost use Rattle.writer.specs.Write.{held_words, write_words};
 ghost use Rattle.writer.specs.Stages.{fields_out, known_out, copied};
 
-use crate::given::{ExtensionGiven, KindGiven, kind_given, why_kind};
-use crate::places::NOWHERE;
+use crate::given::{ExtensionGiven, kind_given};
 use crate::plain::is_plain;
-use crate::sets::{SetsFor, sets_for, why_sets};
+use crate::sets::sets_for;
 use crate::whole::put_header;
 use bits::copy::copy_in;
 use bits::refusals::{BUFFER_TOO_SHORT, NO_BITS, Refusal, refuse};
 use fields::conditions::both;
 use syntax::context::Context;
 
-// What writing a header answers.
-#[derive(Clone, Copy)]
-pub enum HeaderWrote {
-    // so many bits
-    Bits(usize),
-    Refused(Refusal),
-}
-
 // The bytes of the first n bits of d, out to the front of the buffer, if there is room for them.
-fn copy_out(d: &[u8], n: usize, out: &mut [u8]) -> HeaderWrote
+fn copy_out(d: &[u8], n: usize, out: &mut [u8]) -> Result<usize, Refusal>
     requires { (n ≤ 8 * length d.now) × (length d.now ≤ 6144) }
     ensures { (result ≡ (copied d.now n out.old).answer) × (out.new ≡ (copied d.now n out.old).left) }
 {
     let m = (n + 7) / 8;
     if out.len() < m {
-        return HeaderWrote::Refused(refuse(BUFFER_TOO_SHORT, m as i64));
+        return Err(refuse(BUFFER_TOO_SHORT, m as i64));
     }
     copy_in(&d[..m], out, 0);
-    HeaderWrote::Bits(n)
+    Ok(n)
 }
 
-// The header's fields, into a buffer that has room for every header that there is: what leads nowhere in it has no bits.
+// The header's fields, into a buffer that has room for every header that there is: what is refused in it has no bits.
 fn write_long(
     x: Context,
     numbers: &[u32; 57],
@@ -47,20 +38,19 @@ fn write_long(
     w0: &[i32; 256],
     w1: &[i32; 256],
     out: &mut [u8],
-) -> HeaderWrote
+) -> Result<usize, Refusal>
     requires { ((x.picture.num_ref_idx_l0_default_active_minus1 ≤ 31) × (x.picture.num_ref_idx_l1_default_active_minus1 ≤ 31)) × (plain_numbers numbers.now ≡ true) }
     ensures { (result ≡ (fields_out x (header_from (held_words numbers.now signed.now l0.now l1.now marking.now w0.now w1.now)) out.old).answer) × (out.new ≡ (fields_out x (header_from (held_words numbers.now signed.now l0.now l1.now marking.now w0.now w1.now)) out.old).left) }
 {
     let mut d = [0u8; 6144];
-    let c = put_header(&mut d, x, numbers, signed, l0, l1, marking, w0, w1);
-    let at = c.at;
-    if at < NOWHERE {
-        return copy_out(&d, at, out);
+    let end = put_header(&mut d, x, numbers, signed, l0, l1, marking, w0, w1);
+    match end {
+        Some(c) => copy_out(&d, c.at, out),
+        None => Err(refuse(NO_BITS, 0)),
     }
-    HeaderWrote::Refused(refuse(NO_BITS, 0))
 }
 
-// The header's fields, into a short buffer first, since to clear a long one costs more than to write most headers. What leads nowhere there is tried again.
+// The header's fields, into a short buffer first, since to clear a long one costs more than to write most headers. What is refused there is tried again.
 fn write_fields(
     x: Context,
     numbers: &[u32; 57],
@@ -71,17 +61,16 @@ fn write_fields(
     w0: &[i32; 256],
     w1: &[i32; 256],
     out: &mut [u8],
-) -> HeaderWrote
+) -> Result<usize, Refusal>
     requires { ((x.picture.num_ref_idx_l0_default_active_minus1 ≤ 31) × (x.picture.num_ref_idx_l1_default_active_minus1 ≤ 31)) × (plain_numbers numbers.now ≡ true) }
     ensures { (result ≡ (fields_out x (header_from (held_words numbers.now signed.now l0.now l1.now marking.now w0.now w1.now)) out.old).answer) × (out.new ≡ (fields_out x (header_from (held_words numbers.now signed.now l0.now l1.now marking.now w0.now w1.now)) out.old).left) }
 {
     let mut d = [0u8; 256];
-    let c = put_header(&mut d, x, numbers, signed, l0, l1, marking, w0, w1);
-    let at = c.at;
-    if at <= 2048 {
-        return copy_out(&d, at, out);
+    let end = put_header(&mut d, x, numbers, signed, l0, l1, marking, w0, w1);
+    match end {
+        Some(c) if c.at <= 2048 => copy_out(&d, c.at, out),
+        _ => write_long(x, numbers, signed, l0, l1, marking, w0, w1, out),
     }
-    write_long(x, numbers, signed, l0, l1, marking, w0, w1, out)
 }
 
 // The header by its sets, if the words hold a record. It is written into a buffer of its own, so that a refusal leaves the one that is lent as it was, and so that
@@ -96,13 +85,13 @@ fn write_known(
     w0: &[i32; 256],
     w1: &[i32; 256],
     out: &mut [u8],
-) -> HeaderWrote
+) -> Result<usize, Refusal>
     requires { (x.picture.num_ref_idx_l0_default_active_minus1 ≤ 31) × (x.picture.num_ref_idx_l1_default_active_minus1 ≤ 31) }
     ensures { (result ≡ (known_out x (held_words numbers.now signed.now l0.now l1.now marking.now w0.now w1.now) out.old).answer) × (out.new ≡ (known_out x (held_words numbers.now signed.now l0.now l1.now marking.now w0.now w1.now) out.old).left) }
 {
     let same = numbers[3] == x.picture.seq_parameter_set_id;
     if !both(is_plain(numbers, w0, w1), same) {
-        return HeaderWrote::Refused(refuse(NO_BITS, 0));
+        return Err(refuse(NO_BITS, 0));
     }
     write_fields(x, numbers, signed, l0, l1, marking, w0, w1, out)
 }
@@ -122,22 +111,16 @@ pub fn write_words_in<'a>(
     w0: &[i32; 256],
     w1: &[i32; 256],
     out: &mut [u8],
-) -> HeaderWrote
+) -> Result<usize, Refusal>
     ensures { (result ≡ (write_words (table_of sequences.now pictures.now) first extension (held_words numbers.now signed.now l0.now l1.now marking.now w0.now w1.now) out.old).answer) × (out.new ≡ (write_words (table_of sequences.now pictures.now) first extension (held_words numbers.now signed.now l0.now l1.now marking.now w0.now w1.now) out.old).left) }
 {
-    let a1 = kind_given(first, extension);
-    let KindGiven::Of(kind) = a1 else {
-        return HeaderWrote::Refused(why_kind(a1));
-    };
-    let a2 = sets_for(sequences, pictures, numbers[2]);
-    let SetsFor::There(picture, cycle_width, sequence) = a2 else {
-        return HeaderWrote::Refused(why_sets(a2));
-    };
+    let kind = kind_given(first, extension)?;
+    let sets = sets_for(sequences, pictures, numbers[2])?;
     let x = Context {
         kind,
-        picture,
-        sequence,
-        cycle_width,
+        picture: sets.picture,
+        sequence: sets.sequence,
+        cycle_width: sets.cycle_width,
     };
     write_known(x, numbers, signed, l0, l1, marking, w0, w1, out)
 }

@@ -10,6 +10,10 @@ pub use crate::words::{List, ListWords, NumberWords, SignedWords, WeightWords, W
 
 include!(concat!(env!("OUT_DIR"), "/records.rs"));
 
+pub type MarkedNumber = Marked<u32>;
+pub type MarkedSigned = Marked<i32>;
+pub type MarkedFlag = Marked<bool>;
+
 // A struct result of over 16 bytes goes through a pointer that stands first: on x86-64 by the C convention, elsewhere because bench/native-archive compiles the
 // module made for x86-64. So it is written out here, and the same text serves both. A slice is a pointer and a length.
 extern "C" {

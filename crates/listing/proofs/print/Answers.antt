@@ -8,25 +8,25 @@ use Rattle.list_steps.specs.declared.step.State.{State}
 use Rattle.list_steps.proofs.Turns.{goes_on}
 use Rattle.listing.proofs.print.Goals as goal
 
-pub loop-sequences-init : goal.loop-sequences-init
-loop-sequences-init g c = (refl, refl, rw c.start-state.ensures (omega arith))
+pub loop-state-init : goal.loop-state-init
+loop-state-init g c = (refl, refl, rw c.start-state.ensures (omega arith))
 
 pub slice_bounds-line-end : goal.slice_bounds-line-end
-slice_bounds-line-end g c = omega (arith, c.list_step-l.ensures.text.short, same_line c.list_step-l.ensures.text, c.loop-sequences.invariant.1)
+slice_bounds-line-end g c = omega (arith, c.list_step-l.ensures.text.short, same_line c.list_step-l.ensures.text, c.loop-state.invariant.1)
 
 pub slice_bounds-write_all-end : goal.slice_bounds-write_all-end
-slice_bounds-write_all-end g c = sym (length-take-le _ _ (omega (arith, c.list_step-l.ensures.text.short, same_line c.list_step-l.ensures.text, c.loop-sequences.invariant.1)))
+slice_bounds-write_all-end g c = sym (length-take-le _ _ (omega (arith, c.list_step-l.ensures.text.short, same_line c.list_step-l.ensures.text, c.loop-state.invariant.1)))
 
-pub loop-sequences-smaller : goal.loop-sequences-smaller
-loop-sequences-smaller g c =
+pub loop-state-smaller : goal.loop-state-smaller
+loop-state-smaller g c =
     let l = c.list_step-l.ensures in
     let n = goes_on _ _ _ _ (held l.more (not-false _ c.if-not-l.false)) in
     omega (arith, n.0, n.1, ap (λ (s : State). s.from) l.state)
 
-pub loop-sequences-preserved : goal.loop-sequences-preserved
-loop-sequences-preserved g c =
+pub loop-state-preserved : goal.loop-state-preserved
+loop-state-preserved g c =
     let l = c.list_step-l.ensures in
     let k = c.list_step-l.auto in
-    let i = c.loop-sequences.invariant in
+    let i = c.loop-state.invariant in
     let n = goes_on _ _ _ _ (held l.more (not-false _ c.if-not-l.false)) in
     (k.scratch ∙ i.0, same_line l.text ∙ i.1, omega (arith, n.1, ap (λ (s : State). s.from) l.state))

@@ -13,16 +13,6 @@ returns-then-m-n c =
     let full : length a.dst.now < a.at + length a.src.now = omega arith in
     rw (lt-leb _ _ full) record { value = refl; dst_after = refl }
 
-pub returns-then-m-n-2 : goal.returns-then-m-n-2
-unfolding copied
-returns-then-m-n-2 c =
-    let a = c.args in
-    let full : length a.dst.now < a.at + length a.src.now = omega arith in
-    rw (lt-leb _ _ full) record { value = refl; dst_after = refl }
-
-pub copy_all-requires : goal.copy_all-requires
-copy_all-requires c = omega arith
-
 pub returns : goal.returns
 unfolding copied
 returns c =

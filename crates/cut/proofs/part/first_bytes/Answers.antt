@@ -6,11 +6,11 @@ use Rattle.cut.proofs.part.first_bytes.Goals as goal
 pub slice_bounds-unescape-end : goal.slice_bounds-unescape-end
 slice_bounds-unescape-end c = sym (length-take-le _ _ c.requires.0)
 
-pub returns-in-Of : goal.returns-in-Of
-returns-in-Of c =
+pub returns-in-Ok : goal.returns-in-Ok
+returns-in-Ok c =
     let a = c.args in
-    let e = first_read a.unit.now a.from a.end a.local.now c.requires.0 c.requires.1.0 c.requires.1.1 c.unescape.ensures.value c.unescape.ensures.scratch_after c.in-Of.is in
+    let e = first_read a.unit.now a.from a.end a.local.now c.requires.0 c.requires.1.0 c.requires.1.1 c.unescape.ensures.value c.unescape.ensures.scratch_after c.in-Ok.is in
     record { value = e.0; local_after = e.1 }
 
-pub returns-in-Refused : goal.returns-in-Refused
-returns-in-Refused c = absurd (first-none c.args.unit.now c.args.from c.args.end c.args.local.now c.requires.0 c.requires.1.0 c.requires.1.1 c.unescape.ensures.value c.in-Refused.is)
+pub returns-in-Err : goal.returns-in-Err
+returns-in-Err c = absurd (first-none c.args.unit.now c.args.from c.args.end c.args.local.now c.requires.0 c.requires.1.0 c.requires.1.1 c.unescape.ensures.value c.in-Err.is)

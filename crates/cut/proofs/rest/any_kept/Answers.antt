@@ -15,9 +15,6 @@ returns-then-stands c =
     let u = c.args.unit.now in
     sym (l.invariant.0 ∙ kept_set u l.zeros l.i (search rules) (omega (arith, c.type_inv.unit l.i)) (sym c.stands.ensures ∙ c.if-stands.true))
 
-pub zeros_after-zeros-requires : goal.zeros_after-zeros-requires
-zeros_after-zeros-requires c = omega arith
-
 pub loop-i-preserved : goal.loop-i-preserved
 loop-i-preserved c =
     let l = c.loop-i in

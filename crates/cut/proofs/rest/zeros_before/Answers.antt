@@ -8,9 +8,6 @@ use Rattle.cut.proofs.rest.zeros_before.Goals as goal
 pub loop-i-init : goal.loop-i-init
 loop-i-init c = (refl, omega arith, omega arith)
 
-pub zeros_after-z-requires : goal.zeros_after-z-requires
-zeros_after-z-requires c = omega arith
-
 pub loop-i-preserved : goal.loop-i-preserved
 loop-i-preserved c =
     let l = c.loop-i in

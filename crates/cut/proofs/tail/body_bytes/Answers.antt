@@ -10,12 +10,6 @@ use Rattle.cut.proofs.tail.body_bytes.Goals as goal
 pub loop-i-init : goal.loop-i-init
 loop-i-init c = (omega arith, omega arith, omega arith)
 
-pub overflow_add-n : goal.overflow_add-n
-overflow_add-n c = let e = c.kept-n.ensures in let f = few-kept c.loop-i.zeros (get_or c.args.unit.now c.loop-i.i 0) in omega arith
-
-pub zeros_after-zeros-requires : goal.zeros_after-zeros-requires
-zeros_after-zeros-requires c = omega arith
-
 pub loop-i-preserved : goal.loop-i-preserved
 loop-i-preserved c =
     let l = c.loop-i in

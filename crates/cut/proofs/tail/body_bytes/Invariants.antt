@@ -1,4 +1,4 @@
-use Prim.Native.Nat.{◌+◌, ◌-◌, ◌≤◌}
+use Prim.Native.Nat.{◌+◌, ◌≤◌}
 use mathlib.Core.Path.{◌≡◌}
 use lib.ListN.{length, drop}
 use Rattle.escape.specs.Body.{body}
@@ -6,6 +6,3 @@ use Rattle.cut.proofs.tail.body_bytes.Given as goal
 
 abbrev pub invariant-loop-i : goal.invariant-loop-i
 invariant-loop-i l = (length (body 0 (drop l.from l.unit)) ≡ l.n + length (body l.zeros (drop l.i l.unit))) × (l.n ≤ l.i) × (l.zeros ≤ l.i)
-
-abbrev pub decreases-loop-i : goal.decreases-loop-i
-decreases-loop-i l = length l.unit - l.i

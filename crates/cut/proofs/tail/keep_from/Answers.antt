@@ -1,29 +1,19 @@
 use native.Mathlib.Omega.{arith}
 use native.Mathlib.Numerals.{add-one}
-use mathlib.Core.Path.{refl, ◌∙◌}
 use lib.ListN.{get_or, drop}
-use Rattle.escape.specs.Body.{drops, body}
+use Rattle.escape.specs.Body.{body}
 use Rattle.cut.proofs.Bytes.{zeros-few}
-use Rattle.cut.proofs.Tails.{none-stored, store-next, stored-full, stored-all, none_left, few-kept, kept-room}
+use Rattle.cut.proofs.Tails.{none-stored, store-next, stored-full, stored-all, none_left, few-kept}
 use borrow.Author.Rules.{rules}
 use Rattle.cut.proofs.tail.keep_from.Goals as goal
 
 pub loop-i-init : goal.loop-i-init
-loop-i-init c = (none-stored _ _, omega arith, omega arith, c.requires.1, refl)
-
-pub shape_of-local-then-n-ge256 : goal.shape_of-local-then-n-ge256
-shape_of-local-then-n-ge256 c = c.loop-i.invariant.4
+loop-i-init c = (none-stored _ _, omega arith, omega arith)
 
 pub returns-then-n-ge256 : goal.returns-then-n-ge256
 returns-then-n-ge256 c =
     let e = stored-full _ _ _ _ _ c.loop-i.invariant.0 256 (omega arith) in
     record { value = e.0; local_after = e.1 }
-
-pub keep-n-requires : goal.keep-n-requires
-keep-n-requires c = omega (arith, c.loop-i.invariant.3, c.loop-i.invariant.4)
-
-pub zeros_after-zeros-requires : goal.zeros_after-zeros-requires
-zeros_after-zeros-requires c = omega (arith, c.loop-i.invariant.2)
 
 pub loop-i-preserved : goal.loop-i-preserved
 loop-i-preserved c =
@@ -34,10 +24,7 @@ loop-i-preserved c =
     let g = few-kept l.zeros (get_or u l.i 0) in
     let e = c.zeros_after-zeros.ensures in
     let k = c.keep-n.ensures in
-    (rw (e, add-one, k.value, k.local_after) (store-next (body c.args.z (drop c.args.from u)) b l.local l.n u l.zeros l.i (search rules) (omega (arith, l.invariant.3)) l.invariant.0), omega arith, omega arith, l.invariant.3, rw k.local_after (kept-room (drops l.zeros (get_or u l.i 0)) l.local l.n (get_or u l.i 0) ∙ l.invariant.4))
-
-pub shape_of-local : goal.shape_of-local
-shape_of-local c = c.loop-i.invariant.4
+    (rw (e, add-one, k.value, k.local_after) (store-next (body c.args.z (drop c.args.from u)) b l.local l.n u l.zeros l.i (search rules) (omega arith) l.invariant.0), omega arith, omega arith)
 
 pub returns : goal.returns
 returns c =

@@ -2,7 +2,5 @@ use Rattle.std.proofs.Common.{◌∙◌, ap₂}
 use Rattle.exports.specs.Walks.{walk_told}
 use Rattle.exports.proofs.headers.tuz_walk_headers.Goals as goal
 
-pub returns : goal.returns
-returns c =
-    let g = c.walk_headers_into-w.ensures in
-    record { value = c.walk_told.ensures ∙ ap₂ walk_told g.step g.answered; table = g.table; words = g.words }
+pub returns-clause-value : goal.returns-clause-value
+returns-clause-value c = let g = c.walk_headers_into-w.ensures.walked in c.walk_told.ensures ∙ ap₂ walk_told g.step g.answered

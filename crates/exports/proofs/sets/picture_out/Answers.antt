@@ -1,10 +1,10 @@
 use Rattle.exports.specs.Sets.{picture_out}
 use Rattle.exports.proofs.sets.picture_out.Goals as goal
 
-pub returns-in-There : goal.returns-in-There
+pub returns-in-Some : goal.returns-in-Some
 unfolding picture_out
-returns-in-There c = rw (← c.picture_in.ensures, c.in-There.is)
+returns-in-Some c = rw (← c.picture_in.ensures, c.in-Some.is)
 
-pub returns-in-Absent : goal.returns-in-Absent
+pub returns-in-None : goal.returns-in-None
 unfolding picture_out
-returns-in-Absent c = rw (c.no_picture.ensures, ← c.picture_in.ensures, c.in-Absent.is)
+returns-in-None c = rw (c.no_picture.ensures, ← c.picture_in.ensures, c.in-None.is)

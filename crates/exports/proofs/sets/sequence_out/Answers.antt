@@ -1,10 +1,10 @@
 use Rattle.exports.specs.Sets.{sequence_out}
 use Rattle.exports.proofs.sets.sequence_out.Goals as goal
 
-pub returns-in-There : goal.returns-in-There
+pub returns-in-Some : goal.returns-in-Some
 unfolding sequence_out
-returns-in-There c = rw (← c.sequence_in.ensures, c.in-There.is)
+returns-in-Some c = rw (← c.sequence_in.ensures, c.in-Some.is)
 
-pub returns-in-Absent : goal.returns-in-Absent
+pub returns-in-None : goal.returns-in-None
 unfolding sequence_out
-returns-in-Absent c = rw (c.no_sequence.ensures, ← c.sequence_in.ensures, c.in-Absent.is)
+returns-in-None c = rw (c.no_sequence.ensures, ← c.sequence_in.ensures, c.in-None.is)

@@ -1,10 +1,10 @@
 use Rattle.exports.specs.Takes.{closed_out}
 use Rattle.exports.proofs.takes.closed_out.Goals as goal
 
-pub returns-in-Nothing : goal.returns-in-Nothing
+pub returns-in-None : goal.returns-in-None
 unfolding closed_out
-returns-in-Nothing c = rw (c.no_exposure.ensures, c.in-Nothing.is)
+returns-in-None c = rw (c.no_exposure.ensures, c.in-None.is)
 
-pub returns-in-Exposure : goal.returns-in-Exposure
+pub returns-in-Some : goal.returns-in-Some
 unfolding closed_out
-returns-in-Exposure c = rw c.in-Exposure.is
+returns-in-Some c = rw c.in-Some.is

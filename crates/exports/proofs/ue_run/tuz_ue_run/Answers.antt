@@ -1,7 +1,7 @@
 use Rattle.std.proofs.Common.{sym, ap, ◌∙◌, arith}
-use Rattle.bits.specs.Answers.{as_read}
 use Rattle.exports.proofs.Runs.{step, stop, last}
 use Rattle.exports.proofs.ue_run.tuz_ue_run.Goals as goal
+use Rattle.bits.specs.Answers.{as_read}
 
 pub returns-in_default : goal.returns-in_default
 returns-in_default c =
@@ -9,7 +9,7 @@ returns-in_default c =
 
 pub loop-i-preserved : goal.loop-i-preserved
 loop-i-preserved c =
-    (omega arith, rw c.wrapping_add_u32-sum.ensures.value (step _ _ _ _ _ _ c.loop-i.invariant.1 _ _ (omega arith) (sym c.ue.ensures ∙ ap as_read c.in-Got.is)))
+    (omega arith, rw c.wrapping_add_u32-sum.ensures.value (step _ _ _ _ _ _ c.loop-i.invariant.1 _ _ (omega arith) (sym c.ue.ensures ∙ ap as_read c.in-Ok.is)))
 
 pub returns : goal.returns
 returns c = c.pack-2.ensures ∙ last _ _ _ _ _ _ c.loop-i.invariant.1 (omega arith)

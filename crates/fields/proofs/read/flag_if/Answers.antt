@@ -5,7 +5,7 @@ use Rattle.fields.proofs.read.flag_if.Goals as goal
 
 pub returns-then-there : goal.returns-then-there
 unfolding flag
-returns-then-there c = c.marked_flag.ensures ∙ flag-there _ _ _ _ c.if-there.true c.flag.ensures
+returns-then-there c = c.marked.ensures ∙ flag-there _ _ _ _ c.if-there.true c.flag.ensures
 
 pub returns-else-there : goal.returns-else-there
-returns-else-there c = c.absent_flag.ensures ∙ flag-absent _ _ _ c.if-there.false
+returns-else-there c = c.absent.ensures ∙ flag-absent _ _ _ c.if-there.false

@@ -4,13 +4,14 @@ use Prim.Native.Nat.{ℕ, ◌<◌}
 use mir.Facts.{to_z_pos}
 use mir.Syntax.{w64}
 use native.Mathlib.Omega.{arith}
-use Rattle.framed.specs.declared.convert.Converted.{Converted}
 use Rattle.framed.specs.Convert.{ConvertOut}
 use Rattle.framed.proofs.Cases.{lengths-over, lengths-large, lengths_short, lengths-done}
 use Rattle.framed.proofs.Joins.{lengths-most}
 use Rattle.framed.proofs.convert.to_lengths.Goals as goal
+use Rattle.std.specs.Prelude.{Result}
+use Rattle.bits.specs.declared.refusals.Refusal.{Refusal}
 
-abbrev answered : ConvertOut → Converted
+abbrev answered : ConvertOut → Result ℕ Refusal
 answered o = o.answer
 
 abbrev leaves : ConvertOut → List ℕ

@@ -5,15 +5,16 @@ use mir.Facts.{to_z_pos}
 use mir.Syntax.{w64}
 use native.Mathlib.Omega.{arith}
 use lib.ListN.{length}
-use Rattle.framed.specs.declared.convert.Converted.{Converted}
 use Rattle.framed.specs.Framed.{framed_units}
 use Rattle.framed.specs.Convert.{start_code, joined, bytes_of, ConvertOut}
 use Rattle.framed.proofs.Frames.{uncarried-within}
 use Rattle.framed.proofs.Joins.{codes-length}
 use Rattle.framed.proofs.Cases.{codes-over, codes-broken, codes-uncarried, codes-short, codes-done}
 use Rattle.framed.proofs.convert.to_start_codes.Goals as goal
+use Rattle.std.specs.Prelude.{Result}
+use Rattle.bits.specs.declared.refusals.Refusal.{Refusal}
 
-abbrev answered : ConvertOut → Converted
+abbrev answered : ConvertOut → Result ℕ Refusal
 answered o = o.answer
 
 abbrev leaves : ConvertOut → List ℕ
@@ -34,17 +35,17 @@ returns-then-end-n c =
     record { value = rw (c.refuse-then-end-n.ensures, to_z_pos w64 small, q) (sym (ap answered e)); out_after = sym (ap leaves e) }
 
 pub overflow_cast-place : goal.overflow_cast-place
-overflow_cast-place c = omega (arith, uncarried-within 0 0 c.args.recording.now (omega arith) (sym c.survey-found.ensures.first_value ∙ c.in-At.is))
+overflow_cast-place c = omega (arith, uncarried-within 0 0 c.args.recording.now (omega arith) (sym c.survey-found.ensures.first_value ∙ c.in-Some.is))
 
-pub returns-in-At : goal.returns-in-At
-returns-in-At c =
+pub returns-in-Some : goal.returns-in-Some
+returns-in-Some c =
     let a = c.args in
     let q = c.survey-found.ensures.end_value in
-    let f = sym c.survey-found.ensures.first_value ∙ c.in-At.is in
+    let f = sym c.survey-found.ensures.first_value ∙ c.in-Some.is in
     let w = uncarried-within 0 0 a.recording.now (omega arith) f in
     let e = codes-uncarried a.recording.now a.out.now (omega arith) (omega arith) f in
-    let small : c.in-At.place < 9223372036854775808 = omega arith in
-    record { value = rw (c.refuse-in-At.ensures, to_z_pos w64 small) (sym (ap answered e)); out_after = sym (ap leaves e) }
+    let small : c.in-Some.place < 9223372036854775808 = omega arith in
+    record { value = rw (c.refuse-in-Some.ensures, to_z_pos w64 small) (sym (ap answered e)); out_after = sym (ap leaves e) }
 
 pub returns-then-out-n : goal.returns-then-out-n
 returns-then-out-n c =

@@ -24,5 +24,5 @@ returns c =
     let u = c.args.unit.now in
     let h = c.prefix_near-a.ensures in
     let e = cut-bits u 4 near (omega arith) (omega arith) in
-    let k = prefix-refusal-kept c.args.kind (body_bits (take near u) 4) (behind_bits u 4 near) (sym c.in-Refused.is ∙ h.value) h.base_after _ refl (rw (← c.may_change.ensures) (search rules)) in
+    let k = prefix-refusal-kept c.args.kind (body_bits (take near u) 4) (behind_bits u 4 near) (sym c.in-Err.is ∙ h.value) h.base_after _ refl (rw (← c.may_change.ensures) (search rules)) in
     record { value = rw e k.0; base_after = rw e k.1 }

@@ -1,17 +1,20 @@
+use Rattle.unit.specs.Into.{lent_in}
+use Rattle.header.specs.Short.{words_in}
+use borrow.Author.Rules.{rules}
 use Rattle.header.specs.Lead.{table_of}
 use Rattle.cut.specs.Seam.{body_bits}
 use Rattle.front.proofs.Answers.{slice-right, slice-cleared}
 use Rattle.front.proofs.into.slice_into.Goals as goal
 
-pub returns-in-At : goal.returns-in-At
-returns-in-At c =
+pub returns-in-Ok : goal.returns-in-Ok
+returns-in-Ok c =
     let a = c.args in
     let h = c.read_escaped_into.ensures in
-    let r = slice-right (table_of a.sequences.now a.pictures.now) a.kind (body_bits a.unit.now a.from) (record { numbers = a.numbers.now; signed = a.signed.now; l0 = a.l0.now; l1 = a.l1.now; marking = a.marking.now; w0 = a.w0.now; w1 = a.w1.now }) a.base.now h.value h.w1_value _ c.in-At.is in
-    record { value = r.0; base_value = r.1 }
+    let r = slice-right (table_of a.sequences.now a.pictures.now) a.kind (body_bits a.unit.now a.from) (words_in a.w.now.header) a.w.now.base.now h.value h.words _ c.in-Ok.is in
+    record { value = r.0; words = r.1; same = search rules }
 
-pub returns-in-Refused : goal.returns-in-Refused
-returns-in-Refused c =
+pub returns-in-Err : goal.returns-in-Err
+returns-in-Err c =
     let a = c.args in
-    let r = slice-cleared (table_of a.sequences.now a.pictures.now) a.kind (body_bits a.unit.now a.from) (record { header = record { numbers = a.numbers.now; signed = a.signed.now; l0 = a.l0.now; l1 = a.l1.now; marking = a.marking.now; w0 = a.w0.now; w1 = a.w1.now }; base = a.base.now }) c.read_escaped_into.ensures.value _ c.in-Refused.is c.clear_words.ensures in
-    record { value = r.0; base_value = r.1 }
+    let r = slice-cleared (table_of a.sequences.now a.pictures.now) a.kind (body_bits a.unit.now a.from) (lent_in a.w.now) c.read_escaped_into.ensures.value _ c.in-Err.is c.clear.ensures.words in
+    record { value = r.0; words = r.1; same = search rules }

@@ -1,3 +1,4 @@
+use borrow.Author.Rules.{rules}
 use native.Mathlib.Omega.{arith}
 use mathlib.Core.Path.{sym}
 use lib.Seq.{length-take-le}
@@ -16,4 +17,4 @@ pub returns : goal.returns
 returns c =
     let a = c.args in
     let u = a.unit.now in
-    rw (← far-header u 0 (omega arith) (table_of a.sequences.now a.pictures.now) a.kind, ← far-bits u 0 (far-held u 0 c.far_body-n.ensures.value c.far_body-n.ensures.local_after).1) c.fill.ensures.filled
+    record { filled = rw (← far-header u 0 (omega arith) (table_of a.sequences.now a.pictures.now) a.kind, ← far-bits u 0 (far-held u 0 c.far_body-n.ensures.value c.far_body-n.ensures.local_after).1) c.fill.ensures.filled; same = search rules }

@@ -1,3 +1,4 @@
+use borrow.Author.Rules.{rules}
 use mathlib.Core.Path.{sym}
 use lib.Seq.{length-take-le}
 use Rattle.cut.proofs.Firsts.{near-held, near-bits}
@@ -12,4 +13,5 @@ slice_bounds-fill-end c = sym (length-take-le _ _ (near-held c.args.unit.now 0 c
 pub returns : goal.returns
 returns c =
     let u = c.args.unit.now in
-    rw (← near-bits u 0 (near-held u 0 c.near_body-n.ensures.value c.near_body-n.ensures.local_after).1) c.fill.ensures
+    let b = near-bits u 0 (near-held u 0 c.near_body-n.ensures.value c.near_body-n.ensures.local_after).1 in
+    record { filled = rw (← b) c.fill.ensures.filled; kept = rw (← b) c.fill.ensures.kept; same = search rules }

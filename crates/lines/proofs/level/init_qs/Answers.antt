@@ -6,13 +6,10 @@ use mathlib.Core.Path.{sym, ◌∙◌}
 use Rattle.lines.proofs.Levels.{init-qs}
 use Rattle.lines.proofs.level.init_qs.Goals as goal
 
-pub enum_told-1 : goal.enum_told-1
-enum_told-1 c = search rules
+pub returns-in-Some : goal.returns-in-Some
+returns-in-Some c =
+    let f : SFits w32 c.in-Some.p.pic_init_qs_minus26 = search rules in
+    rw (to_z-of_z f) (init-qs _ _ _ (sym c.in-Some.is ∙ c.picture_in.ensures))
 
-pub returns-in-There : goal.returns-in-There
-returns-in-There c =
-    let f : SFits w32 c.in-There.p.pic_init_qs_minus26 = search rules in
-    rw (to_z-of_z f) (init-qs _ _ _ (sym c.in-There.is ∙ c.picture_in.ensures))
-
-pub returns-in-Absent : goal.returns-in-Absent
-returns-in-Absent c = init-qs _ _ _ (sym c.in-Absent.is ∙ c.picture_in.ensures)
+pub returns-in-None : goal.returns-in-None
+returns-in-None c = init-qs _ _ _ (sym c.in-None.is ∙ c.picture_in.ensures)

@@ -1,10 +1,10 @@
 use Rattle.lines.specs.Lines.{is_svc}
 use Rattle.lines.proofs.line.is_svc.Goals as goal
 
-pub returns-in-Got : goal.returns-in-Got
+pub returns-in-Ok : goal.returns-in-Ok
 unfolding is_svc
-returns-in-Got c = rw (← c.extension_of.ensures, c.in-Got.is) c.is_svc.ensures
+returns-in-Ok c = rw (← c.extension_of.ensures, c.in-Ok.is) c.is_svc.ensures
 
-pub returns-in-Refused : goal.returns-in-Refused
+pub returns-in-Err : goal.returns-in-Err
 unfolding is_svc
-returns-in-Refused c = rw (← c.extension_of.ensures, c.in-Refused.is)
+returns-in-Err c = rw (← c.extension_of.ensures, c.in-Err.is)

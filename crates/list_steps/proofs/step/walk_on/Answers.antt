@@ -4,7 +4,7 @@ use Rattle.list_steps.proofs.step.walk_on.Goals as goal
 
 pub returns : goal.returns
 returns c =
-    let g = c.walk_by-w.ensures in
+    let g = c.walk_by-w.ensures.walked in
     record {
       step = g.step;
       answered = g.answered;

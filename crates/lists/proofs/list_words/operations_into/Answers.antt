@@ -20,4 +20,4 @@ pub returns : goal.returns
 returns c =
     let g = c.args in
     let f = onto-there g.there (kind_of g.kind) (bits_of g.s.now) g.c.at g.words.now c.if-not-there.false (c.fill-a.ensures.value, c.fill-a.ensures.words_after) in
-    record { value = f.0; words_after = left-read g.there (kind_of g.kind) (bits_of g.s.now) g.c.at _ f.0 c.in-Got.is f.1 }
+    record { value = f.0; words_after = left-read g.there (kind_of g.kind) (bits_of g.s.now) g.c.at _ f.0 c.in-Ok.is f.1 }

@@ -1,20 +1,11 @@
-use mathlib.Core.Path.{refl, sym, ap, ◌∙◌}
-use Rattle.bits.specs.Answers.{as_read}
-use Rattle.fmt.specs.Leaves.{ue}
+use Prim.Native.Nat.{suc, ◌+◌, ◌-◌}
+use mathlib.Core.Path.{◌≡◌}
 use native.Mathlib.Omega.{arith}
-use Rattle.parameter_sets.proofs.Passing.{passed_none, passed-one, passed-no}
+use borrow.Author.Rules.{rules}
+use Rattle.fmt.specs.Leaves.{ue}
+use Rattle.fmt.specs.Reads.{next, passes}
 use Rattle.parameter_sets.proofs.codes.pass_codes.Goals as goal
 
-pub loop-left-init : goal.loop-left-init
-loop-left-init c = refl
-
-pub returns-in_default : goal.returns-in_default
-unfolding ue
-returns-in_default c = rw (c.why.ensures, c.in_default.is) (passed-no _ _ _ _ c.loop-left-test.true (sym c.ue-a.ensures ∙ ap as_read c.in_default.is) ∙ c.loop-left.invariant)
-
-pub loop-left-preserved : goal.loop-left-preserved
-unfolding ue
-loop-left-preserved c = passed-one _ _ _ _ c.loop-left-test.true (sym c.ue-a.ensures ∙ ap as_read c.in-Got.is) ∙ c.loop-left.invariant
-
-pub returns : goal.returns
-returns c = passed_none _ _ _ _ (omega (arith, c.loop-left-test.false)) ∙ c.loop-left.invariant
+pub loop-preserved : goal.loop-preserved
+unfolding ue next passes
+loop-preserved c = let k : c.args.n - c.loop.counter ≡ suc (c.args.n - (c.loop.counter + 1)) = omega (arith, c.loop-test.true) in search rules

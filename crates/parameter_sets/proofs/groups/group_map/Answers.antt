@@ -4,18 +4,6 @@ use Rattle.parameter_sets.specs.PictureSet.{group_map}
 use Rattle.parameter_sets.proofs.Pairs.{pairs}
 use Rattle.parameter_sets.proofs.groups.group_map.Goals as goal
 
-pub returns-then-slice_group_map_type-eq0 : goal.returns-then-slice_group_map_type-eq0
-unfolding group_map next found
-returns-then-slice_group_map_type-eq0 c = rw (c.no_rate.ensures, c.pass_codes.ensures, eq-eqb _ _ c.if-slice_group_map_type-eq0.true)
-
 pub returns-then-slice_group_map_type-eq2 : goal.returns-then-slice_group_map_type-eq2
 unfolding group_map next found
 returns-then-slice_group_map_type-eq2 c = rw (c.no_rate-then-slice_group_map_type-eq2.ensures, c.pass_codes-then-slice_group_map_type-eq2.ensures, ne_eqb _ _ c.if-slice_group_map_type-eq0.false, eq-eqb _ _ c.if-slice_group_map_type-eq2.true, pairs)
-
-pub returns-then-is_changing : goal.returns-then-is_changing
-unfolding group_map next found
-returns-then-is_changing c = rw (ne_eqb _ _ c.if-slice_group_map_type-eq0.false, ne_eqb _ _ c.if-slice_group_map_type-eq2.false, ← c.is_changing.ensures, c.if-is_changing.true) c.change_rate.ensures
-
-pub returns : goal.returns
-unfolding group_map next found
-returns c = rw (ne_eqb _ _ c.if-slice_group_map_type-eq0.false, ne_eqb _ _ c.if-slice_group_map_type-eq2.false, ← c.is_changing.ensures, c.if-is_changing.false, c.requires.1)

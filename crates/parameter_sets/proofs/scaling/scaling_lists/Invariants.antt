@@ -6,6 +6,3 @@ use Rattle.parameter_sets.proofs.scaling.scaling_lists.Given as goal
 
 abbrev pub invariant-loop-i : goal.invariant-loop-i
 invariant-loop-i l = scaling_lists (l.n - l.i) l.i (bits_of l.s) l.at.at ≡ scaling_lists l.n 0 (bits_of l.s) l.initial.at.at
-
-abbrev pub decreases-loop-i : goal.decreases-loop-i
-decreases-loop-i l = l.n - l.i

@@ -7,10 +7,10 @@ use native.Mathlib.Omega.{arith}
 use Rattle.record.proofs.entries.operations_of.Goals as goal
 
 pub loop-i-init : goal.loop-i-init
-loop-i-init c = let h : c.at_most_66-used.result ≤ 66 = rw c.at_most_66-used.ensures (at-most-66 c.args.count) in (search rules, none-loaded _)
+loop-i-init c = let h : c.at_most_66-used.result ≤ 66 = rw c.at_most_66-used.ensures (at-most-66 c.args.count) in (h, none-loaded _)
 
 pub loop-i-preserved : goal.loop-i-preserved
-loop-i-preserved c = (search rules, one-loaded _ c.loop-i.invariant.1 (search rules))
+loop-i-preserved c = (c.loop-i.invariant.0, one-loaded _ c.loop-i.invariant.1 (search rules))
 
 pub returns : goal.returns
 returns c =

@@ -1,9 +1,6 @@
-use Prim.Native.Nat.{◌≤◌, ◌-◌}
+use Prim.Native.Nat.{◌≤◌}
 use Rattle.record.proofs.Taken.{Loaded}
 use Rattle.record.proofs.entries.operations_of.Given as goal
 
 abbrev pub invariant-loop-i : goal.invariant-loop-i
-invariant-loop-i l = ((l.i ≤ l.used) × (l.used ≤ 66)) × Loaded l.words l.codes l.first l.second l.i
-
-abbrev pub decreases-loop-i : goal.decreases-loop-i
-decreases-loop-i l = l.used - l.i
+invariant-loop-i l = (l.used ≤ 66) × Loaded l.words l.codes l.first l.second l.i

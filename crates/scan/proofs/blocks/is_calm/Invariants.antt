@@ -1,5 +1,5 @@
 use mathlib.Core.Path.{◌≡◌}
-use Prim.Native.Nat.{ℕ, ◌-◌, ◌*◌, ◌≤◌, ◌<◌}
+use Prim.Native.Nat.{ℕ, ◌*◌, ◌<◌}
 use lib.ListN.{length}
 use Rattle.scan.specs.Clear.{Low}
 use Rattle.scan.proofs.Clears.{Least}
@@ -7,13 +7,7 @@ use Rattle.scan.proofs.blocks.is_calm.Given as goal
 
 -- the first loop: the least of k places; the second: no low pair at p of them
 abbrev pub invariant-loop-k : goal.invariant-loop-k
-invariant-loop-k l = (l.k ≤ 32) × (length l.t ≡ 32) × Least l.s l.i l.t l.k
-
-abbrev pub decreases-loop-k : goal.decreases-loop-k
-decreases-loop-k l = 32 - l.k
+invariant-loop-k l = (length l.t ≡ 32) × Least l.s l.i l.t l.k
 
 abbrev pub invariant-loop-p : goal.invariant-loop-p
-invariant-loop-p l = (l.p ≤ 16) × (l.m ≡ 0 → (j : ℕ) → j < l.p → Low l.t (2 * j) → ⊥)
-
-abbrev pub decreases-loop-p : goal.decreases-loop-p
-decreases-loop-p l = 16 - l.p
+invariant-loop-p l = l.m ≡ 0 → (j : ℕ) → j < l.p → Low l.t (2 * j) → ⊥

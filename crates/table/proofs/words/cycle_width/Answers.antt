@@ -1,4 +1,4 @@
 use Rattle.table.proofs.words.cycle_width.Goals as goal
 
-pub returns-in-There : goal.returns-in-There
-returns-in-There c = rw (c.in-There.is, c.change_cycle_width.ensures)
+pub returns-in-Some : goal.returns-in-Some
+returns-in-Some c = rw (c.in-Some.is, c.change_cycle_width.ensures)

@@ -11,8 +11,7 @@ use mir.Syntax.{w32}
 use mir.Val.{SFits, to_z, of_z}
 use Rattle.table.specs.Sets.{between, picture_fits}
 use Rattle.table.specs.declared.sets.Picture.{Picture}
-use Rattle.table.specs.declared.words.FoundPicture.{FoundPicture}
-use Rattle.table.specs.Tables.{width_in, picture_of}
+use Rattle.table.specs.Tables.{found_picture, width_in, picture_of}
 use Rattle.table.proofs.Tests.{refuted, held}
 use Rattle.table.proofs.Looking.{entry_at, made_picture, made, picture-past, picture-none, picture-there, plausible, Plausible, picture-unmade, picture-made}
 use borrow.Author.Rules.{rules}
@@ -55,7 +54,7 @@ returns-then-picture_fits c =
     let qp : SFits w32 c.lowered.result = search rules in
     let qs : SFits w32 c.lowered-2.result = search rules in
     let m = is_made w qp qs c.lowered.ensures c.lowered-2.ensures in
-    ap (λ (p : Picture). FoundPicture.There p (width_in w)) m
+    ap (λ (p : Picture). (found_picture p (width_in w))) m
     ∙ sym (picture-there _ _ c.if-id-gt255.false (e.rest ∙ ap picture_fits (sym m) ∙ sym c.picture_fits.ensures ∙ c.if-picture_fits.true))
 
 pub returns-else-picture_fits : goal.returns-else-picture_fits

@@ -8,14 +8,14 @@ use Rattle.table.proofs.words.renew.Goals as goal
 
 pub loop-j-init : goal.loop-j-init
 unfolding renewed
-loop-j-init c = (omega arith, refl)
+loop-j-init c = refl
 
 more : (id size : ℕ) (t₀ t : List ℕ) (j : ℕ) → t ≡ renewed id size t₀ j → renewed_by id size t j (picture_in t j) ≡ renewed id size t₀ (j + 1)
 unfolding renewed
 more id size t₀ t j e = rw (add-one, e)
 
 pub loop-j-preserved : goal.loop-j-preserved
-loop-j-preserved c = (omega arith, c.renew_entry.ensures ∙ more _ _ _ _ _ c.loop-j.invariant.1)
+loop-j-preserved c = c.renew_entry.ensures ∙ more _ _ _ _ _ c.loop-j.invariant
 
 pub returns : goal.returns
-returns c = c.loop-j.invariant.1 ∙ ap (renewed _ _ _) (omega arith)
+returns c = c.loop-j.invariant ∙ ap (renewed _ _ _) (omega arith)

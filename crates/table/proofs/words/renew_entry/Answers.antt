@@ -9,11 +9,11 @@ pub returns-in_default : goal.returns-in_default
 returns-in_default c = rw (← c.picture_in-found.ensures, c.in_default.is)
 
 pub returns-then-p-id : goal.returns-then-p-id
-returns-then-p-id c = rw (← c.picture_in-found.ensures, c.in-There.is, ne_eqb _ _ c.if-p-id.true)
+returns-then-p-id c = rw (← c.picture_in-found.ensures, c.in-Some.is, ne_eqb _ _ c.if-p-id.true)
 
 -- a set was found, so there is such an entry
 inside : (c : goal.After-change_cycle_width-width) → c.args.j ≤ 255
-inside c = (found-picture _ _ _ _ (sym c.picture_in-found.ensures ∙ c.in-There.is)).0
+inside c = (found-picture _ _ _ _ (sym c.picture_in-found.ensures ∙ c.in-Some.is)).0
 
 pub overflow_mul-k : goal.overflow_mul-k
 overflow_mul-k c = record { fits = omega (arith, inside c) }
@@ -25,4 +25,4 @@ pub bounds-t-k : goal.bounds-t-k
 bounds-t-k c = omega (arith, inside c.before)
 
 pub returns : goal.returns
-returns c = rw (← c.picture_in-found.ensures, c.in-There.is, eq-eqb _ _ c.if-p-id.false, c.change_cycle_width-width.ensures)
+returns c = rw (← c.picture_in-found.ensures, c.in-Some.is, eq-eqb _ _ c.if-p-id.false, c.change_cycle_width-width.ensures)

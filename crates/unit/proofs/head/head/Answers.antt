@@ -6,10 +6,10 @@ pub returns-then-unit-gt-LIMIT : goal.returns-then-unit-gt-LIMIT
 unfolding head_of
 returns-then-unit-gt-LIMIT c = rw (c.refuse.ensures, lt-leb _ _ c.if-unit-gt-LIMIT.true)
 
-pub returns-in-Got : goal.returns-in-Got
+pub returns-in-Ok : goal.returns-in-Ok
 unfolding head_of
-returns-in-Got c = rw (c.head_typed.ensures, le-leb _ _ c.if-unit-gt-LIMIT.false, ← c.header_of.ensures, c.in-Got.is)
+returns-in-Ok c = rw (c.head_typed.ensures, le-leb _ _ c.if-unit-gt-LIMIT.false, ← c.header_of.ensures, c.in-Ok.is)
 
-pub returns-in-Refused : goal.returns-in-Refused
+pub returns-in-Err : goal.returns-in-Err
 unfolding head_of
-returns-in-Refused c = rw (le-leb _ _ c.if-unit-gt-LIMIT.false, ← c.header_of.ensures, c.in-Refused.is)
+returns-in-Err c = rw (le-leb _ _ c.if-unit-gt-LIMIT.false, ← c.header_of.ensures, c.in-Err.is)

@@ -5,17 +5,17 @@ use Rattle.unit.proofs.Held.{refused-into}
 use Rattle.unit.proofs.Known.{known-own, known-other}
 use Rattle.unit.proofs.into.read_known_into.Goals as goal
 
-pub returns-then-not-is_head_of : goal.returns-then-not-is_head_of
-returns-then-not-is_head_of c =
+pub returns-then-not-is_head_of-clause-read : goal.returns-then-not-is_head_of-clause-read
+returns-then-not-is_head_of-clause-read c =
     let a = c.args in
     let e = sym c.is_head_of.ensures ∙ c.if-not-is_head_of.true in
-    rw c.refuse.ensures (refused-into (known-other a.known (table_of a.sequences.now a.pictures.now) a.unit.now a.scratch.now a.head e) _ c.clear_words.ensures)
+    rw c.refuse.ensures (refused-into (known-other a.known (table_of a.sequences.now a.pictures.now) a.unit.now a.scratch.now a.head e) _ c.clear.ensures.words)
 
 pub read_into-requires : goal.read_into-requires
 read_into-requires c = begun-own _ _ (sym c.is_head_of.ensures ∙ c.if-not-is_head_of.false)
 
-pub returns : goal.returns
-returns c =
+pub returns-clause-read : goal.returns-clause-read
+returns-clause-read c =
     let a = c.args in
     let e = sym c.is_head_of.ensures ∙ c.if-not-is_head_of.false in
-    rw (known-own a.known (table_of a.sequences.now a.pictures.now) a.unit.now a.scratch.now a.head e) c.read_into.ensures
+    rw (known-own a.known (table_of a.sequences.now a.pictures.now) a.unit.now a.scratch.now a.head e) c.read_into.ensures.read

@@ -1,3 +1,4 @@
+use Rattle.header.specs.Short.{words_in}
 use mathlib.Core.Path.{refl, sym, ◌∙◌}
 use Rattle.unit.specs.Known.{unit_known}
 use Rattle.unit.proofs.Cases.{begun-small}
@@ -16,28 +17,28 @@ sequence_into-requires c = begun-small _ _ (sym c.in-SequenceSet.is ∙ c.begun_
 pub picture_into-requires : goal.picture_into-requires
 picture_into-requires c = begun-small _ _ (sym c.in-PictureSet.is ∙ c.begun_by.ensures ∙ sym c.requires) refl
 
-pub returns-in-Slice : goal.returns-in-Slice
+pub returns-in-Slice-clause-taken : goal.returns-in-Slice-clause-taken
 unfolding unit_known
-returns-in-Slice c = rw (c.requires, ← c.begun_by.ensures, c.in-Slice.is) (c.slice_into.ensures c.args.base.now)
+returns-in-Slice-clause-taken c = rw (c.requires, ← c.begun_by.ensures, c.in-Slice.is) (c.slice_into.ensures.taken c.args.w.now.base.now)
 
-pub returns-in-Prefix : goal.returns-in-Prefix
+pub returns-in-Prefix-clause-taken : goal.returns-in-Prefix-clause-taken
 unfolding unit_known
-returns-in-Prefix c =
+returns-in-Prefix-clause-taken c =
     let a = c.args in
-    rw (c.requires, ← c.begun_by.ensures, c.in-Prefix.is) (c.body_into.ensures (record { numbers = a.numbers.now; signed = a.signed.now; l0 = a.l0.now; l1 = a.l1.now; marking = a.marking.now; w0 = a.w0.now; w1 = a.w1.now }))
+    rw (c.requires, ← c.begun_by.ensures, c.in-Prefix.is) (c.body_into.ensures (words_in a.w.now.header))
 
-pub returns-in-SequenceSet : goal.returns-in-SequenceSet
+pub returns-in-SequenceSet-clause-taken : goal.returns-in-SequenceSet-clause-taken
 unfolding unit_known
-returns-in-SequenceSet c = rw (c.requires, ← c.begun_by.ensures, c.in-SequenceSet.is) (c.sequence_into.ensures _)
+returns-in-SequenceSet-clause-taken c = rw (c.requires, ← c.begun_by.ensures, c.in-SequenceSet.is) (c.sequence_into.ensures _)
 
-pub returns-in-PictureSet : goal.returns-in-PictureSet
+pub returns-in-PictureSet-clause-taken : goal.returns-in-PictureSet-clause-taken
 unfolding unit_known
-returns-in-PictureSet c = rw (c.requires, ← c.begun_by.ensures, c.in-PictureSet.is) (c.picture_into.ensures _)
+returns-in-PictureSet-clause-taken c = rw (c.requires, ← c.begun_by.ensures, c.in-PictureSet.is) (c.picture_into.ensures _)
 
-pub returns-in-Other : goal.returns-in-Other
+pub returns-in-Other-clause-taken : goal.returns-in-Other-clause-taken
 unfolding unit_known
-returns-in-Other c = rw (c.requires, ← c.begun_by.ensures, c.in-Other.is) (other-taken _ refl _)
+returns-in-Other-clause-taken c = rw (c.requires, ← c.begun_by.ensures, c.in-Other.is) (other-taken _ refl _)
 
-pub returns-in-Refused : goal.returns-in-Refused
+pub returns-in-Refused-clause-taken : goal.returns-in-Refused-clause-taken
 unfolding unit_known
-returns-in-Refused c = rw (c.requires, ← c.begun_by.ensures, c.in-Refused.is) (none-taken _ refl _ _)
+returns-in-Refused-clause-taken c = rw (c.requires, ← c.begun_by.ensures, c.in-Refused.is) (none-taken _ refl _ _)

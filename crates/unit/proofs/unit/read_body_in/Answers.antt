@@ -7,7 +7,7 @@ shape_of-scratch c = c.read_body_into-a.auto.scratch
 
 pub returns : goal.returns
 returns c =
-    let g = c.read_body_into-a.ensures in
+    let g = c.read_body_into-a.ensures.read in
     let a = c.args in (
       rw (c.long_answer.ensures, c.header_of.ensures, c.prefix_of.ensures, c.prefix_in.ensures)
           (body-whole (table_of a.sequences.now a.pictures.now) a.head a.unit.now a.scratch.now g.answered g.words),

@@ -5,15 +5,15 @@ use Rattle.unit.proofs.Held.{refused-into}
 use Rattle.front.proofs.Units.{front-given, front-refused}
 use Rattle.walk.proofs.headers.read_headers.Goals as goal
 
-pub returns-in-Got : goal.returns-in-Got
-returns-in-Got c =
+pub returns-in-Ok : goal.returns-in-Ok
+returns-in-Ok c =
     let a = c.args in
-    rw (← front-given (table_of a.sequences.now a.pictures.now) a.unit.now [] (sym c.head.ensures ∙ c.in-Got.is))
+    rw (← front-given (table_of a.sequences.now a.pictures.now) a.unit.now [] (sym c.head.ensures ∙ c.in-Ok.is))
     c.read_front_into.ensures
 
-pub returns-in-Refused : goal.returns-in-Refused
-returns-in-Refused c =
+pub returns-in-Err-clause-read : goal.returns-in-Err-clause-read
+returns-in-Err-clause-read c =
     let a = c.args in
     refused-into
-    (front-refused (table_of a.sequences.now a.pictures.now) a.unit.now [] (sym c.head.ensures ∙ c.in-Refused.is)) _
-    c.clear_words.ensures
+    (front-refused (table_of a.sequences.now a.pictures.now) a.unit.now [] (sym c.head.ensures ∙ c.in-Err.is)) _
+    c.clear.ensures.words

@@ -4,15 +4,15 @@ use Rattle.unit.proofs.Held.{refused-into}
 use Rattle.unit.proofs.Known.{known-given, known-refused}
 use Rattle.walk.proofs.turn.read_unit.Goals as goal
 
-pub returns-in-Got : goal.returns-in-Got
-returns-in-Got c =
+pub returns-in-Ok : goal.returns-in-Ok
+returns-in-Ok c =
     let a = c.args in
-    rw (← known-given a.known (table_of a.sequences.now a.pictures.now) a.unit.now a.scratch.now (sym c.head.ensures ∙ c.in-Got.is))
+    rw (← known-given a.known (table_of a.sequences.now a.pictures.now) a.unit.now a.scratch.now (sym c.head.ensures ∙ c.in-Ok.is))
     c.read_known_into.ensures
 
-pub returns-in-Refused : goal.returns-in-Refused
-returns-in-Refused c =
+pub returns-in-Err-clause-read : goal.returns-in-Err-clause-read
+returns-in-Err-clause-read c =
     let a = c.args in
     refused-into
-    (known-refused a.known (table_of a.sequences.now a.pictures.now) a.unit.now a.scratch.now (sym c.head.ensures ∙ c.in-Refused.is)) _
-    c.clear_words.ensures
+    (known-refused a.known (table_of a.sequences.now a.pictures.now) a.unit.now a.scratch.now (sym c.head.ensures ∙ c.in-Err.is)) _
+    c.clear.ensures.words

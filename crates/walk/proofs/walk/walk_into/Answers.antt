@@ -7,11 +7,11 @@ use Rattle.walk.proofs.Seen.{found_in, clear_in_lem, seen_turned}
 use Rattle.walk.proofs.Steps.{step-over, step-found, walked_at, none-into, unit-into}
 use Rattle.walk.proofs.walk.walk_into.Goals as goal
 
-pub returns-then-n-gt-LIMIT : goal.returns-then-n-gt-LIMIT
-returns-then-n-gt-LIMIT c = rw (walked_at _ _ _ _ (sym (step-over _ _ c.if-n-gt-LIMIT.true)), c.refuse.ensures) (none-into unit_read _ c.args.recording.now _ _ (λ p l n e. cc) _)
+pub returns-then-n-gt-LIMIT-clause-walked : goal.returns-then-n-gt-LIMIT-clause-walked
+returns-then-n-gt-LIMIT-clause-walked c = rw (walked_at _ _ _ _ (sym (step-over _ _ c.if-n-gt-LIMIT.true)), c.refuse.ensures) (none-into unit_read _ c.args.recording.now _ _ (λ p l n e. cc) _)
 
-pub returns-in_default : goal.returns-in_default
-returns-in_default c = rw (walked_at _ _ _ _ (sym (step-found _ _ c.if-n-gt-LIMIT.false (found_in _ _ c.next_seen-seen.ensures c.in_default.is)))) (none-into unit_read _ c.args.recording.now _ _ (λ p l n e. cc) _)
+pub returns-in_default-clause-walked : goal.returns-in_default-clause-walked
+returns-in_default-clause-walked c = rw (walked_at _ _ _ _ (sym (step-found _ _ c.if-n-gt-LIMIT.false (found_in _ _ c.next_seen-seen.ensures c.in_default.is)))) (none-into unit_read _ c.args.recording.now _ _ (λ p l n e. cc) _)
 
 -- what the search found
 pub overflow_add-end : goal.overflow_add-end
@@ -20,10 +20,10 @@ overflow_add-end c = let w = went _ _ _ _ _ (found_in _ _ c.next_seen-seen.ensur
 pub slice_bounds-body_in_turn-end : goal.slice_bounds-body_in_turn-end
 slice_bounds-body_in_turn-end c = let w = went _ _ _ _ _ (found_in _ _ c.next_seen-seen.ensures c.in-At.is) in omega arith
 
-pub returns : goal.returns
-returns c =
+pub returns-clause-walked : goal.returns-clause-walked
+returns-clause-walked c =
     let s = c.args.recording.now in
     let p = c.in-At.place in
     let e = found_in _ _ c.next_seen-seen.ensures c.in-At.is in
     rw (walked_at _ _ _ _ (sym (step-found _ _ c.if-n-gt-LIMIT.false e)))
-    (unit-into _ _ _ _ (seen_turned s p (p + c.in-At.length - p) (clear_in_lem s _ c.next_seen-seen.ensures e) c.body_in_turn-answer.ensures))
+    (unit-into _ _ _ _ (seen_turned s p (p + c.in-At.length - p) (clear_in_lem s _ c.next_seen-seen.ensures e) c.body_in_turn-answer.ensures.turned))

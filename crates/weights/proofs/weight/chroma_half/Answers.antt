@@ -1,36 +1,47 @@
 use mir.Val.{SFits}
 use mir.Syntax.{w32}
 use mir.Facts.{to_z-of_z}
+use Rattle.std.proofs.lemmas.Result.{err_from_is_err_and}
 use Rattle.fmt.specs.Fmt.{seq}
 use Rattle.weights.specs.Halves.{chroma_half}
 use borrow.Author.Rules.{rules}
 use Rattle.weights.proofs.weight.chroma_half.Goals as goal
 
-pub returns-in_default : goal.returns-in_default
+pub returns-in_err-f : goal.returns-in_err-f
 unfolding chroma_half seq
-returns-in_default c = rw (c.why_flag.ensures, ← c.given_flag-a1.ensures, c.in_default.is)
+returns-in_err-f c =
+    let p = err_from_is_err_and c.from_residual.result c.from_residual.ensures.1 in
+    rw (p.1, p.2, ← c.in_err-f.ensures)
 
-pub returns-in_default-a2 : goal.returns-in_default-a2
+pub returns-in_err-bw : goal.returns-in_err-bw
 unfolding chroma_half seq
-returns-in_default-a2 c = rw (c.why_given.ensures, ← c.given_flag-a1.ensures, c.in-Got.is, ← c.given_signed-a2.ensures, c.in_default-a2.is)
+returns-in_err-bw c =
+    let p = err_from_is_err_and c.from_residual-in_err-bw.result c.from_residual-in_err-bw.ensures.1 in
+    rw (p.1, p.2, ← c.in_ok-f.ensures, ← c.in_err-bw.ensures)
 
-pub returns-in_default-a3 : goal.returns-in_default-a3
+pub returns-in_err-bo : goal.returns-in_err-bo
 unfolding chroma_half seq
-returns-in_default-a3 c = rw (c.why_given-in_default-a3.ensures, ← c.given_flag-a1.ensures, c.in-Got.is, ← c.given_signed-a2.ensures, c.in-Got-a2.is, ← c.given_signed-a3.ensures, c.in_default-a3.is)
+returns-in_err-bo c =
+    let p = err_from_is_err_and c.from_residual-in_err-bo.result c.from_residual-in_err-bo.ensures.1 in
+    rw (p.1, p.2, ← c.in_ok-f.ensures, ← c.in_ok-bw.ensures, ← c.in_err-bo.ensures)
 
-pub returns-in_default-a4 : goal.returns-in_default-a4
+pub returns-in_err-rw : goal.returns-in_err-rw
 unfolding chroma_half seq
-returns-in_default-a4 c = rw (c.why_given-in_default-a4.ensures, ← c.given_flag-a1.ensures, c.in-Got.is, ← c.given_signed-a2.ensures, c.in-Got-a2.is, ← c.given_signed-a3.ensures, c.in-Got-a3.is, ← c.given_signed-a4.ensures, c.in_default-a4.is)
+returns-in_err-rw c =
+    let p = err_from_is_err_and c.from_residual-in_err-rw.result c.from_residual-in_err-rw.ensures.1 in
+    rw (p.1, p.2, ← c.in_ok-f.ensures, ← c.in_ok-bw.ensures, ← c.in_ok-bo.ensures, ← c.in_err-rw.ensures)
 
-pub returns-in_default-a5 : goal.returns-in_default-a5
+pub returns-in_err-ro : goal.returns-in_err-ro
 unfolding chroma_half seq
-returns-in_default-a5 c = rw (c.why_given-in_default-a5.ensures, ← c.given_flag-a1.ensures, c.in-Got.is, ← c.given_signed-a2.ensures, c.in-Got-a2.is, ← c.given_signed-a3.ensures, c.in-Got-a3.is, ← c.given_signed-a4.ensures, c.in-Got-a4.is, ← c.given_signed-a5.ensures, c.in_default-a5.is)
+returns-in_err-ro c =
+    let p = err_from_is_err_and c.from_residual-in_err-ro.result c.from_residual-in_err-ro.ensures.1 in
+    rw (p.1, p.2, ← c.in_ok-f.ensures, ← c.in_ok-bw.ensures, ← c.in_ok-bo.ensures, ← c.in_ok-rw.ensures, ← c.in_err-ro.ensures)
 
 pub returns : goal.returns
 unfolding chroma_half seq
 returns c =
-    let f2 : SFits w32 c.in-Got-a2.bw.value = search rules in
-    let f3 : SFits w32 c.in-Got-a3.bo.value = search rules in
-    let f4 : SFits w32 c.in-Got-a4.rw.value = search rules in
-    let f5 : SFits w32 c.in-Got-a5.ro.value = search rules in
-    rw (to_z-of_z f2, to_z-of_z f3, to_z-of_z f4, to_z-of_z f5, ← c.given_flag-a1.ensures, c.in-Got.is, ← c.given_signed-a2.ensures, c.in-Got-a2.is, ← c.given_signed-a3.ensures, c.in-Got-a3.is, ← c.given_signed-a4.ensures, c.in-Got-a4.is, ← c.given_signed-a5.ensures, c.in-Got-a5.is)
+    let f2 : SFits w32 c.in_ok-bw.bw = search rules in
+    let f3 : SFits w32 c.in_ok-bo.bo = search rules in
+    let f4 : SFits w32 c.in_ok-rw.rw = search rules in
+    let f5 : SFits w32 c.in_ok-ro.ro = search rules in
+    rw (to_z-of_z f2, to_z-of_z f3, to_z-of_z f4, to_z-of_z f5, ← c.in_ok-f.ensures, ← c.in_ok-bw.ensures, ← c.in_ok-bo.ensures, ← c.in_ok-rw.ensures, ← c.in_ok-ro.ensures)

@@ -1,8 +1,24 @@
 use mathlib.Core.Path.{refl}
-use Rattle.writer.proofs.Stages.{on, shaped_to}
+use Rattle.writer.proofs.Stages.{on, off, shaped_to}
 use Rattle.syntax.specs.SliceHeader.{frame}
 use Rattle.writer.proofs.frame.put_frame.Goals as goal
 
+pub returns-in_err-c1 : goal.returns-in_err-c1
+unfolding frame
+returns-in_err-c1 c = shaped_to _ _ _ _ _ refl (off _ _ _ _ c.from_residual.ensures c.in_err-c1.ensures)
+
+pub returns-in_err-c2 : goal.returns-in_err-c2
+unfolding frame
+returns-in_err-c2 c = shaped_to _ _ _ _ _ refl (on _ _ _ _ c.in_ok-c1.ensures (off _ _ _ _ c.from_residual-in_err-c2.ensures c.in_err-c2.ensures))
+
+pub returns-in_err-c3 : goal.returns-in_err-c3
+unfolding frame
+returns-in_err-c3 c = shaped_to _ _ _ _ _ refl (on _ _ _ _ c.in_ok-c1.ensures (on _ _ _ _ c.in_ok-c2.ensures (off _ _ _ _ c.from_residual-in_err-c3.ensures c.in_err-c3.ensures)))
+
+pub returns-in_err-c4 : goal.returns-in_err-c4
+unfolding frame
+returns-in_err-c4 c = shaped_to _ _ _ _ _ refl (on _ _ _ _ c.in_ok-c1.ensures (on _ _ _ _ c.in_ok-c2.ensures (on _ _ _ _ c.in_ok-c3.ensures (off _ _ _ _ c.from_residual-in_err-c4.ensures c.in_err-c4.ensures))))
+
 pub returns : goal.returns
 unfolding frame
-returns c = shaped_to _ _ _ _ _ refl (on _ _ _ _ c.put_colour_plane_if-c1.ensures (on _ _ _ _ c.put_bits-c2.ensures (on _ _ _ _ c.put_flag_if-c3.ensures (on _ _ _ _ c.put_flag_if-c4.ensures c.put_number_if.ensures))))
+returns c = shaped_to _ _ _ _ _ refl (on _ _ _ _ c.in_ok-c1.ensures (on _ _ _ _ c.in_ok-c2.ensures (on _ _ _ _ c.in_ok-c3.ensures (on _ _ _ _ c.in_ok-c4.ensures c.put_number_if.ensures))))

@@ -5,4 +5,4 @@ use Rattle.writer.proofs.marks.put_bits.Goals as goal
 
 pub returns : goal.returns
 unfolding u
-returns c = rw c.place_of.ensures (told _ (put_of (u c.args.n) _ _ _ _ _ c.put_bits.ensures.value c.put_bits.ensures.d_after))
+returns c = rw c.ok.ensures.value (told _ (put_of (u c.args.n) _ _ _ _ _ c.put_bits.ensures.value c.put_bits.ensures.d_after))

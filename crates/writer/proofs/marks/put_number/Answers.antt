@@ -5,4 +5,4 @@ use Rattle.writer.proofs.marks.put_number.Goals as goal
 
 pub returns : goal.returns
 unfolding ue
-returns c = rw c.place_of.ensures (told _ (put_of ue _ _ _ _ _ c.put_ue.ensures.value c.put_ue.ensures.d_after))
+returns c = rw c.ok.ensures.value (told _ (put_of ue _ _ _ _ _ c.put_ue.ensures.value c.put_ue.ensures.d_after))

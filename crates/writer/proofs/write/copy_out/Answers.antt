@@ -10,12 +10,6 @@ use Rattle.writer.specs.Stages.{copied}
 use Rattle.writer.proofs.Copies.{copied-front}
 use Rattle.writer.proofs.write.copy_out.Goals as goal
 
-pub overflow_add-m : goal.overflow_add-m
-overflow_add-m c = omega arith
-
-pub overflow_cast-m : goal.overflow_cast-m
-overflow_cast-m c = omega arith
-
 pub returns-then-out-m : goal.returns-then-out-m
 unfolding copied
 returns-then-out-m c =

@@ -1,7 +1,0 @@
-use Rattle.fields.proofs.flag.marked_flag.Goals as goal
-
-pub returns-in-Got : goal.returns-in-Got
-returns-in-Got c = rw c.in-Got.is
-
-pub returns-in-Refused : goal.returns-in-Refused
-returns-in-Refused c = rw c.in-Refused.is

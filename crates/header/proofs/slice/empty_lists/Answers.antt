@@ -1,6 +1,0 @@
-use Rattle.header.specs.Short.{emptied}
-use Rattle.header.proofs.slice.empty_lists.Goals as goal
-
-pub returns : goal.returns
-unfolding emptied
-returns c = rw (c.empty_list.ensures, c.empty_list-2.ensures, c.empty_list-3.ensures, c.empty_weights.ensures, c.empty_weights-2.ensures)

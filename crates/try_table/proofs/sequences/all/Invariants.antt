@@ -1,8 +1,0 @@
-use Prim.Native.Nat.{◌≤◌, ◌-◌}
-use Rattle.try_table.proofs.sequences.all.Given as goal
-
-abbrev pub invariant-loop-i : goal.invariant-loop-i
-invariant-loop-i g l = l.i ≤ 23
-
-abbrev pub decreases-loop-i : goal.decreases-loop-i
-decreases-loop-i g l = 23 - l.i
