@@ -233,7 +233,7 @@ typedef struct {
   size_t others;
 } tuz_Counts;
 
-/* The three extension bytes; where they are not there, they are unused. Types 1 and 5 make no use of them. */
+/* The three extension bytes; where they are not there, they are unused. Types 1 and 5 make no use of them. A mark and no Option, since C hands it over. */
 typedef struct {
   bool there;
   uint8_t b1;

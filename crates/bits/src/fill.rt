@@ -41,6 +41,7 @@ pub(crate) fn fill(d: &mut [u8], at: usize, n: u32, v: u32)
     let w = v as u64;
     let mut p = at;
     let mut left = n;
+    // No `for`: each turn takes as many bits as its byte has room for.
     while 0 < left {
         let take = chunk(p, left);
         fill_byte(d, p, take, piece(w, left, take));

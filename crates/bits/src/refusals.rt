@@ -69,7 +69,7 @@ pub const NOT_CARRIED: u8 = 35;
 pub const LIMIT: usize = 268_435_456;
 
 // Why a call gives no answer: the rules' number, its value, and the bit place in the unescaped body where the refused field begins. Only a refusal that arises
-// while a body is read has a place; in others `bit` is 0.
+// while a body is read has a place; in others `bit` is 0. The number is a number and no enum: it is the rules' own, which hosts print and C gets.
 #[derive(Clone, Copy)]
 pub struct Refusal {
     pub number: u8,

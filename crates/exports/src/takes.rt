@@ -10,6 +10,7 @@ use exposures::counts::Counts;
 use exposures::exposure::Exposure;
 use exposures::take::{counts, finish, start, take};
 use stacking::item::item_of;
+use table::table::Sets;
 
 // An exposure that is closed, or none: then `there` is false and every field zero.
 #[repr(C)]
@@ -80,16 +81,11 @@ pub extern "C" fn tuz_take<'a>(
     ensures { (result ≡ (taken_out (lent state_sizes state_numbers state_levels).entry (table_of sequences.now pictures.now) place nal_unit_type nal_ref_idc answer numbers.now signed.now).closed) × ((lent state_sizes state_numbers state_levels).exit ≡ (taken_out (lent state_sizes state_numbers state_levels).entry (table_of sequences.now pictures.now) place nal_unit_type nal_ref_idc answer numbers.now signed.now).left) }
 {
     let a = hear(answer, 0, 0, false, 0);
-    let item = item_of(
+    let sets = Sets {
         sequences,
         pictures,
-        place,
-        nal_unit_type,
-        nal_ref_idc,
-        a,
-        numbers,
-        signed,
-    );
+    };
+    let item = item_of(sets, place, nal_unit_type, nal_ref_idc, a, numbers, signed);
     closed_out(take(item, state_sizes, state_numbers, state_levels))
 }
 

@@ -12,16 +12,14 @@ pub extern "C" fn tuz_ue_run(s: &[u8], n: u32) -> u64
 {
     let mut c = Cursor { at: 0 };
     let mut sum: u32 = 0;
-    let mut i: u32 = 0;
-    while i < n {
+    for i in 0..n {
         let Ok((v, next)) = c.ue(s) else {
             return pack(i, sum);
         };
         sum = std::num::wrapping_add_u32(sum, v);
         c = next;
-        i += 1;
     }
-    pack(i, sum)
+    pack(n, sum)
 }
 
 fn pack(count: u32, sum: u32) -> u64

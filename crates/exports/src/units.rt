@@ -11,6 +11,7 @@ use header::slice::Words;
 use lists::list_words;
 use syntax::marks::Marked;
 use table::sets::{Picture, Sequence};
+use table::table::Sets;
 use unit::answer::no_prefix;
 use unit::head::UnitHead;
 use unit::into::{AllWords, ShortAnswer, read_body_into};
@@ -159,6 +160,10 @@ pub extern "C" fn tuz_body<'a>(
     ensures value { (result ≡ unit_out (body_read (table_of sequences.now pictures.now) head unit.now scratch.old).read) × (scratch.new ≡ (body_read (table_of sequences.now pictures.now) head unit.now scratch.old).left) }
     ensures words { (lent_words numbers signed l0 l1 marking w0 w1 base).exit ≡ words_after (body_read (table_of sequences.now pictures.now) head unit.now scratch.old).read (lent_words numbers signed l0 l1 marking w0 w1 base).entry }
 {
+    let sets = Sets {
+        sequences,
+        pictures,
+    };
     let mut words = AllWords {
         header: Words {
             numbers,
@@ -171,5 +176,5 @@ pub extern "C" fn tuz_body<'a>(
         },
         base,
     };
-    tell(read_body_into(head, sequences, pictures, unit, scratch, &mut words))
+    tell(read_body_into(head, sets, unit, scratch, &mut words))
 }

@@ -5,6 +5,7 @@ ghost use Rattle.writer.specs.Write.{held_words, write_words};
 ghost use Rattle.exports.specs.Writes.{wrote_out};
 
 use bits::refusals::Refusal;
+use table::table::Sets;
 use writer::given::ExtensionGiven;
 use writer::write::write_words_in;
 
@@ -53,7 +54,11 @@ pub extern "C" fn tuz_write_header<'a>(
 ) -> WroteOut
     ensures { (result ≡ wrote_out (write_words (table_of sequences.now pictures.now) first extension (held_words numbers.now signed.now l0.now l1.now marking.now w0.now w1.now) out.old).answer) × (out.new ≡ (write_words (table_of sequences.now pictures.now) first extension (held_words numbers.now signed.now l0.now l1.now marking.now w0.now w1.now) out.old).left) }
 {
+    let sets = Sets {
+        sequences,
+        pictures,
+    };
     wrote_out(write_words_in(
-        sequences, pictures, first, extension, numbers, signed, l0, l1, marking, w0, w1, out,
+        sets, first, extension, numbers, signed, l0, l1, marking, w0, w1, out,
     ))
 }

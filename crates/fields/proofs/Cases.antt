@@ -1,23 +1,20 @@
 -- Reading by cases: a field that is there only under a condition, and one that is tested; each law takes an answer's facts and gives the format's. And what is
 -- known of a value that passed its test, and of widths over 32.
-use Prim.Native.Nat.{ℕ, ◌≤◌, ◌^◌}
+use Prim.Native.Nat.{ℕ, ◌^◌}
 use mathlib.Core.Path.{◌≡◌, refl, sym, ap, ◌∙◌, subst}
 use mathlib.Core.Bool.{Bool, true, false}
-use native.Mathlib.Omega.{arith}
 use lib.Dec.{T, leb, ltb}
 use lib.IntN.{ℤ}
-use borrow.Author.Tests.{leb-true}
 use Rattle.bits.specs.declared.refusals.Refusal.{Refusal}
-use Rattle.bits.specs.Refusals.{Res, got, no, bind, refusal_at}
+use Rattle.bits.specs.Refusals.{Res, got, no, bind}
 use Rattle.bits.specs.Bits.{Bits, digits}
 use Rattle.bits.specs.Codes.{width_of, fixed_at}
 use Rattle.bits.proofs.Results.{bind-bind, bind-got, under, chosen, cases}
 use Rattle.fmt.specs.Fmt.{Fmt, shaped, test, when}
 use Rattle.fmt.specs.Fmt as fmt
-use Rattle.fmt.specs.Leaves.{flag, u}
-use Rattle.fmt.proofs.Turns.{test-passes, test-refuses}
-use Rattle.syntax.specs.Marks.{is_zero, number_if, signed_if, flag_if, given}
-use Rattle.syntax.specs.Absent.{no_number, no_signed, no_flag}
+use Rattle.fmt.specs.Leaves.{u}
+use Rattle.syntax.specs.Marks.{number_if, given}
+use Rattle.syntax.specs.Absent.{no_number}
 use Rattle.fields.specs.Marked.{marked}
 use Rattle.syntax.specs.declared.marks.Marked.{Marked}
 
@@ -42,24 +39,6 @@ module _ (b : Bool) (F : Fmt ℕ) (s : Bits) (at : ℕ) where
   unfolding number_if
   number-absent = shaped-absent _ _ _ b _ _ F s at
 
-module _ (b : Bool) (F : Fmt ℤ) (s : Bits) (at : ℕ) where
-  pub signed-there : (m : Res ℤ) → b ≡ true → m ≡ F.read s at → marked m ≡ (signed_if b F).read s at
-  unfolding signed_if
-  signed-there = shaped-there _ _ _ b _ _ F s at
-
-  pub signed-absent : b ≡ false → got no_signed at ≡ (signed_if b F).read s at
-  unfolding signed_if
-  signed-absent = shaped-absent _ _ _ b _ _ F s at
-
-module _ (b : Bool) (s : Bits) (at : ℕ) where
-  pub flag-there : (m : Res Bool) → b ≡ true → m ≡ flag.read s at → marked m ≡ (flag_if b).read s at
-  unfolding flag_if
-  flag-there = shaped-there _ _ _ b _ _ flag s at
-
-  pub flag-absent : b ≡ false → got no_flag at ≡ (flag_if b).read s at
-  unfolding flag_if
-  flag-absent = shaped-absent _ _ _ b _ _ flag s at
-
 module _ {A : Type 0} (b : Bool) (z : A) (isz : A → Bool) (F : Fmt A) (s : Bits) (at : ℕ) where
   pub given-there : (m : Res A) → b ≡ true → m ≡ F.read s at → m ≡ (given b z isz F).read s at
   unfolding given
@@ -69,25 +48,12 @@ module _ {A : Type 0} (b : Bool) (z : A) (isz : A → Bool) (F : Fmt A) (s : Bit
   unfolding given
   given-absent = shaped-absent _ _ _ b z isz F s at
 
--- a number with its mark is what `when` reads, in the record's shape
-pub when-number : (b : Bool) (F : Fmt ℕ) (s : Bits) (at : ℕ)
-    → (when b 0 is_zero F).read s at ≡ bind ((number_if b F).read s at) (λ m e. got (record { there = m.there; value = m.value }) e)
-unfolding number_if shaped
-when-number b F s at = rw bind-bind (sym (bind-got ((when b 0 is_zero F).read s at)))
-
--- ---- tested, where reading F answered: no value, a value that passes, and one that does not
+-- ---- tested, where reading F found no value
 
 module _ {A : Type 0} (ok : A → Bool) (n : ℕ) (value : A → ℤ) (F : Fmt A) (s : Bits) (at : ℕ) where
   pub test-none : {r : Refusal} → no r ≡ F.read s at → no r ≡ (test ok n value F).read s at
   unfolding test
   test-none h = rw (← h)
-
-  module _ {a : A} {e : ℕ} (h : got a e ≡ F.read s at) where
-    pub test-pass : ok a ≡ true → got a e ≡ (test ok n value F).read s at
-    test-pass t = sym (test-passes ok n value F s at a e (sym h) t)
-
-    pub test-fail : {r : Refusal} → ok a ≡ false → r ≡ refusal_at n (value a) at → no r ≡ (test ok n value F).read s at
-    test-fail t q = rw q (sym (test-refuses ok n value F s at a e (sym h) t))
 
 -- ---- what passed a test
 
@@ -114,9 +80,6 @@ module _ (ok : ℕ → Bool) (n : ℕ) (value : ℕ → ℤ) (F : Fmt ℕ) (s : 
 same_width : (m n : ℕ) → width_of m ≡ width_of n → u m ≡ u n
 unfolding u
 same_width m n e = ap (λ (w : ℕ). record { read = fixed_at w; bits = digits w; good = λ v. ltb v (2 ^ w) }) e
-
-pub counts-as-32 : (n : ℕ) → 32 ≤ n → width_of n ≡ 32
-counts-as-32 n h = cases (leb n 32) (λ t. rw t (omega (arith, leb-true n 32 t))) (λ t. rw t)
 
 -- a width that is what another counts as
 pub as-width : (m n : ℕ) → m ≡ width_of n → u m ≡ u n

@@ -1,4 +1,6 @@
 // slice_qp_delta and slice_qs_delta: QP and QS, the sums that they are part of, are tested. The sums are made in i64, which holds them for any parameter sets.
+#![tactic(auto, unfolding(syntax::specs::Marks::signed_if, fmt::specs::Fmt::shaped, fmt::specs::Fmt::test, fmt::specs::Fmt::when, fmt::specs::Leaves::se))]
+
 ghost use Rattle.std.specs.Prelude.{◌≡◌, ◌*◌, pos, neg_ℤ};
 ghost use Rattle.bits.specs.Bits.{bits_of};
 ghost use Rattle.fmt.specs.Fmt.{test};

@@ -1,4 +1,6 @@
 // Reading a field: as it is, tested, or there only under a condition. Each says which format of syntax/specs it reads.
+#![tactic(auto, unfolding(syntax::specs::Marks::number_if, syntax::specs::Marks::signed_if, syntax::specs::Marks::flag_if, syntax::specs::Marks::given, syntax::specs::SliceHeader::not_scalable, fmt::specs::Fmt::shaped, fmt::specs::Fmt::test, fmt::specs::Fmt::when, fmt::specs::Fmt::nothing, fmt::specs::Leaves::flag, fmt::specs::Leaves::u, fmt::specs::Leaves::ue, fmt::specs::Leaves::se))]
+
 ghost use Rattle.std.specs.Prelude.{false, not, ◌≡◌, ◌+◌, eqb, leb, pos};
 ghost use Rattle.bits.specs.Bits.{Bits, bits_of};
 ghost use Rattle.bits.specs.Codes.{width_of};

@@ -9,7 +9,9 @@ use borrow.Author.Tests.{leb-true}
 use lib.ListN.{length, take, drop, length-append, length-drop, drop_of_length-le}
 use lib.Seq.{length-take-le}
 use Rattle.bits.specs.Refusals.{pick}
-use Rattle.walk.specs.declared.search.Found.{Found}
+use Rattle.std.specs.Prelude.{Option, Some, None}
+use Rattle.std.proofs.lemmas.Option.{same_Some, none-some}
+use Rattle.walk.specs.declared.search.Span.{Span as Found}
 use Rattle.walk.specs.Walk.{upto, len_of, unit_at, first_from, next_unit}
 use Rattle.walk.specs.Units.{Span, units_at, units}
 use Rattle.walk.proofs.Chain.{went, ended}
@@ -89,13 +91,13 @@ pub length-put : (s : List ℕ) (p l : ℕ) {a b c d : ℕ} → p + l ≤ length
 length-put s p l h ea eb ec ed = rw (part_length s p l h, ea, eb, ec, ed)
 
 -- its start code lies behind the place that is asked from
-pub place-behind : (s : List ℕ) (from : ℕ) {p l m : ℕ} → next_unit s from ≡ Found.At p l m → from + 3 ≤ p
+pub place-behind : (s : List ℕ) (from : ℕ) {u : Found} → next_unit s from ≡ Some u → from + 3 ≤ u.place
 unfolding next_unit unit_at first_from
-place-behind s from {p} {l} {m} e = go (ltb (from + upto 1 (drop from s)) (length s)) e
+place-behind s from {u} e = go (ltb (from + upto 1 (drop from s)) (length s)) e
   where
-    go : (t : Bool) → pick t (Found.At (from + upto 1 (drop from s) + 3) (len_of (drop (from + upto 1 (drop from s) + 3) s)) (from + upto 1 (drop from s) + 3 + upto 0 (drop (from + upto 1 (drop from s) + 3) s))) Found.End ≡ Found.At p l m → from + 3 ≤ p
-    go true q = let z : from + upto 1 (drop from s) + 3 ≡ p = cc in omega arith
-    go false q = let z : ◌≡◌ {A = ℕ} 0 1 = cc in absurd (omega arith)
+    go : (t : Bool) → ◌≡◌ {A = Option Found} (pick t (Some (record { place = from + upto 1 (drop from s) + 3; length = len_of (drop (from + upto 1 (drop from s) + 3) s); next = from + upto 1 (drop from s) + 3 + upto 0 (drop (from + upto 1 (drop from s) + 3) s) })) None) (Some u) → from + 3 ≤ u.place
+    go true q = let z : from + upto 1 (drop from s) + 3 ≡ u.place = ap (λ (f : Found). f.place) (same_Some _ _ q) in omega arith
+    go false q = absurd (none-some u q)
 
 -- ---- how much room lengths take at most
 
@@ -105,14 +107,14 @@ most-from : (f : ℕ) (s : List ℕ) (from : ℕ) → from ≤ length s → leng
 most-from zero s from h g = let l : length s ≤ from = omega arith in rw (drop_of_length-le s l) (omega arith)
 most-from (suc f) s from h g = go (next_unit s from) refl (most-from f s)
   where
-    go : (x : Found) → next_unit s from ≡ x → ((m : ℕ) → m ≤ length s → length s ≤ f + m → 3 * length (joined length_bytes (bytes_of (units_at m (drop m s)))) ≤ 4 * (length s - m))
+    go : (x : Option Found) → next_unit s from ≡ x → ((m : ℕ) → m ≤ length s → length s ≤ f + m → 3 * length (joined length_bytes (bytes_of (units_at m (drop m s)))) ≤ 4 * (length s - m))
         → 3 * length (joined length_bytes (bytes_of (units_at from (drop from s)))) ≤ 4 * (length s - from)
-    go Found.End e ih = rw (ended s from e) (omega arith)
-    go (Found.At p l m) e ih =
-        let w = went s from p l m e in
-        let b : from + 3 ≤ p = place-behind s from e in
-        let n = size-on l w.there (part_length s p l (omega arith)) in
-        let i = ih m (omega arith) (omega arith) in
+    go None e ih = rw (ended s from e) (omega arith)
+    go (Some u) e ih =
+        let w = went s from u e in
+        let b : from + 3 ≤ u.place = place-behind s from e in
+        let n = size-on u.length w.there (part_length s u.place u.length (omega arith)) in
+        let i = ih u.next (omega arith) (omega arith) in
         omega arith
 
 pub lengths-most : (s : List ℕ) → 3 * length (joined length_bytes (bytes_of (units s))) ≤ 4 * length s

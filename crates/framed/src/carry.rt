@@ -22,14 +22,12 @@ fn is_apart(unit: &[u8], from: usize, count: usize) -> bool
     ensures { result ≡ true → Clear 0 0 unit.now from (from + count) }
 {
     let mut m: u8 = 255;
-    let mut k: usize = 0;
-    while k < count {
+    for k in 0..count {
         let i = from + k;
         let x = unit[i] | unit[i + 1];
         if x < m {
             m = x;
         }
-        k += 1;
     }
     0 < m
 }
@@ -44,6 +42,7 @@ fn has_no_pair(unit: &[u8]) -> bool
         return is_apart(unit, 0, last);
     }
     let mut i: usize = 0;
+    // No `for`: it goes on by blocks and ends at the first in which a pair stands.
     while BLOCK < last - i {
         if is_apart(unit, i, BLOCK) {
             i += BLOCK;

@@ -12,7 +12,7 @@ use crate::step::next_framed;
 use bits::refusals::{
     BROKEN_LENGTH, BUFFER_TOO_SHORT, LIMIT, NOT_CARRIED, Refusal, TOO_LARGE, refuse,
 };
-use walk::search::{Found, next_unit};
+use walk::search::next_unit;
 use walk::walk::Step;
 
 // The units of a recording framed by length, each behind 00 00 00 01: as long as its length, so all stand where they stood.
@@ -63,16 +63,11 @@ fn size_with_lengths(recording: &[u8]) -> usize
     let mut i: usize = 0;
     let mut o: usize = 0;
     loop {
-        let Found::At {
-            place: _,
-            length,
-            next,
-        } = next_unit(recording, i)
-        else {
+        let Some(u) = next_unit(recording, i) else {
             return o;
         };
-        o += 4 + length;
-        i = next;
+        o += 4 + u.length;
+        i = u.next;
     }
 }
 
@@ -91,25 +86,20 @@ fn put_lengths(recording: &[u8], out: &mut [u8]) -> usize
     let mut i: usize = 0;
     let mut o: usize = 0;
     loop {
-        let Found::At {
-            place,
-            length,
-            next,
-        } = next_unit(recording, i)
-        else {
+        let Some(u) = next_unit(recording, i) else {
             return o;
         };
-        let end = place + length;
+        let end = u.place + u.length;
         o = put_unit(
             out,
             o,
-            low(length / 16_777_216),
-            low(length / 65_536),
-            low(length / 256),
-            low(length),
-            &recording[place..end],
+            low(u.length / 16_777_216),
+            low(u.length / 65_536),
+            low(u.length / 256),
+            low(u.length),
+            &recording[u.place..end],
         );
-        i = next;
+        i = u.next;
     }
 }
 

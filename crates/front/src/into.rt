@@ -1,7 +1,7 @@
 // A unit read into words that the caller lends, from the unit itself: its body goes nowhere.
 ghost use Rattle.std.specs.Prelude.{◌≡◌, [], ◌≤◌, length};
 ghost use Rattle.bits.specs.Refusals.{limit};
-ghost use Rattle.header.specs.Lead.{table_of};
+ghost use Rattle.header.specs.Lead.{table_in};
 ghost use Rattle.unit.specs.Unit.{slice_bits, prefix_bits, sequence_bits, picture_bits};
 ghost use Rattle.unit.specs.Into.{lent_in, SameLent, short_answer, words_after, ReadInto};
 ghost use Rattle.cut.specs.Seam.{body_bits};
@@ -12,24 +12,24 @@ use crate::sets::{picture_body, sequence_body};
 use bits::refusals::{NOT_ITS_HEAD, refuse};
 use header::escaped::read_escaped_into;
 use syntax::context::{PrefixKind, UnitKind};
+use table::table::Sets;
 use unit::begin::{Begun, begun_by};
 use unit::head::{UnitHead, is_head_of};
 use unit::into::{AllWords, ShortAnswer};
 
 // A slice's header.
-fn slice_into<'a>(
-    sequences: &'a [u32; 224],
-    pictures: &'a [u32; 2304],
+fn slice_into(
+    sets: Sets<'_>,
     unit: &[u8],
     kind: UnitKind,
     from: usize,
     w: &mut AllWords<'_>,
 ) -> ShortAnswer
-    ensures value { result ≡ short_answer (slice_bits (table_of sequences.now pictures.now) kind (body_bits unit.now from)) }
-    ensures words { lent_in w.new ≡ words_after (slice_bits (table_of sequences.now pictures.now) kind (body_bits unit.now from)) (lent_in w.old) }
+    ensures value { result ≡ short_answer (slice_bits (table_in sets.entry) kind (body_bits unit.now from)) }
+    ensures words { lent_in w.new ≡ words_after (slice_bits (table_in sets.entry) kind (body_bits unit.now from)) (lent_in w.old) }
     ensures same { SameLent w.old w.new }
 {
-    match read_escaped_into(unit, from, kind, sequences, pictures, &mut w.header) {
+    match read_escaped_into(unit, from, kind, sets, &mut w.header) {
         Ok(c) => ShortAnswer::Slice(c.at),
         Err(r) => {
             w.clear();
@@ -85,14 +85,13 @@ fn picture_into(unit: &[u8], w: &mut AllWords<'_>) -> ShortAnswer
 }
 
 // As `unit::into::read_body_into`, but that no body goes to scratch: none is lent, and 26 does not come.
-pub fn read_front_into<'a>(
+pub fn read_front_into(
     head: UnitHead,
-    sequences: &'a [u32; 224],
-    pictures: &'a [u32; 2304],
+    sets: Sets<'_>,
     unit: &[u8],
     w: &mut AllWords<'_>,
 ) -> ShortAnswer
-    ensures read { ReadInto (body_front (table_of sequences.now pictures.now) head unit.now []) result [] (lent_in w.old) (lent_in w.new) }
+    ensures read { ReadInto (body_front (table_in sets.entry) head unit.now []) result [] (lent_in w.old) (lent_in w.new) }
     ensures same { SameLent w.old w.new }
 {
     if !is_head_of(head, unit) {
@@ -100,7 +99,7 @@ pub fn read_front_into<'a>(
         return ShortAnswer::Refused(refuse(NOT_ITS_HEAD, 0));
     }
     match begun_by(head) {
-        Begun::Slice(kind, from) => slice_into(sequences, pictures, unit, kind, from, w),
+        Begun::Slice(kind, from) => slice_into(sets, unit, kind, from, w),
         Begun::Prefix(kind) => prefix_into(unit, kind, w),
         Begun::SequenceSet => sequence_into(unit, w),
         Begun::PictureSet => picture_into(unit, w),

@@ -9,12 +9,10 @@ use bits::window::within;
 fn any_from(s: &[u8], from: usize) -> bool
     ensures { result ≡ any_set (bytes_bits (drop from s.now)) }
 {
-    let mut i = from;
-    while i < s.len() {
+    for i in from..s.len() {
         if s[i] != 0 {
             return true;
         }
-        i += 1;
     }
     false
 }

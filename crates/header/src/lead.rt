@@ -3,7 +3,7 @@ ghost use Rattle.std.specs.Prelude.{◌≡◌};
 ghost use Rattle.bits.specs.Bits.{bits_of};
 ghost use Rattle.bits.specs.Refusals.{got, bind};
 ghost use Rattle.syntax.specs.SliceHeader.{lead};
-ghost use Rattle.header.specs.Lead.{table_of, led_of};
+ghost use Rattle.header.specs.Lead.{table_in, led_of};
 ghost use Rattle.bits.specs.Answers.{as_read};
 
 use bits::read::{Cursor, Read};
@@ -12,6 +12,7 @@ use bits::refusals::{
 };
 use fields::read::tested;
 use table::sets::{Picture, Sequence};
+use table::table::Sets;
 use table::words::{picture_in, sequence_in};
 
 #[derive(Clone, Copy)]
@@ -25,13 +26,8 @@ pub struct Led {
     pub cycle_width: u32,
 }
 
-pub fn lead<'a>(
-    s: &'a [u8],
-    c: Cursor,
-    sequences: &'a [u32; 224],
-    pictures: &'a [u32; 2304],
-) -> Read<Led>
-    ensures { as_read result ≡ bind ((lead (table_of sequences.now pictures.now)).read (bits_of s.now) c.at) (λ v e. got (led_of (table_of sequences.now pictures.now) v) e) }
+pub fn lead(s: &[u8], c: Cursor, sets: Sets<'_>) -> Read<Led>
+    ensures { as_read result ≡ bind ((lead (table_in sets.entry)).read (bits_of s.now) c.at) (λ v e. got (led_of (table_in sets.entry) v) e) }
 {
     let a1 = c.ue(s);
     let Ok((first_mb_in_slice, c1)) = a1 else {
@@ -45,11 +41,11 @@ pub fn lead<'a>(
     let Ok((id, c3)) = a3 else {
         return Err(why(a3));
     };
-    let a4 = picture_in(pictures, id);
+    let a4 = picture_in(sets.pictures, id);
     let Some((picture, cycle_width)) = a4 else {
         return Err(refuse_at(NO_PICTURE_SET, id as i64, c2.at));
     };
-    let a5 = sequence_in(sequences, picture.seq_parameter_set_id);
+    let a5 = sequence_in(sets.sequences, picture.seq_parameter_set_id);
     let Some(sequence) = a5 else {
         return Err(refuse_at(NO_SEQUENCE_SET, picture.seq_parameter_set_id as i64, c2.at));
     };

@@ -1,4 +1,5 @@
 // The slice header: in stages, each a part of it, and whole, into words that the caller lends; the answer is where it ends.
+// Each answer is taken apart by `let .. else`, the form that the rules name for the header's stages, and not by `?`.
 #![tactic(auto)]
 
 pub mod kinds; // what the first byte and the extension say

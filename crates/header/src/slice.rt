@@ -5,7 +5,7 @@ ghost use Rattle.std.proofs.lemmas.List.Edits.{sets};
 ghost use Rattle.bits.specs.Bits.{bits_of};
 ghost use Rattle.syntax.specs.SliceHeader.{read_header, modifications, pred_weight_table, dec_ref_pic_marking, active_l0, active_l1};
 ghost use Rattle.weights.specs.Counts.{at_most32};
-ghost use Rattle.header.specs.Lead.{table_of};
+ghost use Rattle.header.specs.Lead.{table_in};
 ghost use Rattle.lists.specs.Leaves.{Covered};
 ghost use Rattle.lists.specs.ListsLent.{list_words};
 ghost use Rattle.weights.specs.WeightsLent.{weights_step, l0_begun, l1_begun};
@@ -29,6 +29,7 @@ use lists::modification::modification_kind;
 use syntax::context::{Context, UnitKind};
 use syntax::marks::Marked;
 use syntax::record::ActiveCounts;
+use table::table::Sets;
 use weights::weight_words::{WeightsShort, clear_weights, empty_weights, weights_onto};
 
 // The words of a header: each array as it is lent.
@@ -189,18 +190,17 @@ fn behind(
     Ok(c6)
 }
 
-pub(crate) fn fill<'a>(
-    s: &'a [u8],
+pub(crate) fn fill(
+    s: &[u8],
     kind: UnitKind,
-    sequences: &'a [u32; 224],
-    pictures: &'a [u32; 2304],
+    sets: Sets<'_>,
     w: &mut Words<'_>,
 ) -> Result<Cursor, Refusal>
-    ensures filled { Filled (read_header (table_of sequences.now pictures.now) kind (bits_of s.now)) result (words_in w.old) (words_in w.new) }
-    ensures kept { Kept (λ t. read_header (table_of sequences.now pictures.now) kind (bits_of s.now ++ t)) (words_in w.old) (words_in w.new) }
+    ensures filled { Filled (read_header (table_in sets.entry) kind (bits_of s.now)) result (words_in w.old) (words_in w.new) }
+    ensures kept { Kept (λ t. read_header (table_in sets.entry) kind (bits_of s.now ++ t)) (words_in w.old) (words_in w.new) }
     ensures same { SameArrays w.old w.new }
 {
-    let a1 = lead(s, Cursor { at: 0 }, sequences, pictures);
+    let a1 = lead(s, Cursor { at: 0 }, sets);
     let Ok((l, c1)) = a1 else {
         return Err(why(a1));
     };
@@ -258,19 +258,18 @@ impl Words<'_> {
 
 // The header at the start of a slice unit's unescaped body, by the table whose arrays are lent. All words of its fields are written. Words that were zeros behind a
 // list's count are zeros behind the new one. Beside a refusal all words are zeros.
-pub fn read_header_into<'a>(
-    s: &'a [u8],
+pub fn read_header_into(
+    s: &[u8],
     kind: UnitKind,
-    sequences: &'a [u32; 224],
-    pictures: &'a [u32; 2304],
+    sets: Sets<'_>,
     w: &mut Words<'_>,
 ) -> Result<Cursor, Refusal>
-    ensures value { result ≡ header_end (read_header (table_of sequences.now pictures.now) kind (bits_of s.now)) }
-    ensures words { words_in w.new ≡ header_left (read_header (table_of sequences.now pictures.now) kind (bits_of s.now)) (words_in w.old) }
+    ensures value { result ≡ header_end (read_header (table_in sets.entry) kind (bits_of s.now)) }
+    ensures words { words_in w.new ≡ header_left (read_header (table_in sets.entry) kind (bits_of s.now)) (words_in w.old) }
     ensures same { SameArrays w.old w.new }
 {
     w.empty_lists();
-    let a = fill(s, kind, sequences, pictures, w);
+    let a = fill(s, kind, sets, w);
     let Ok(_) = a else {
         w.clear();
         return a;

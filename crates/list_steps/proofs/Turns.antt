@@ -51,7 +51,7 @@ pub record Ahead (s : List ℕ) (next : ℕ → Step) : Type 0 where
 pub start-ahead : (s : List ℕ) → length s ≤ most → Ahead s (next_step s)
 start-ahead s h =
     record {
-      on = λ from p n m e. let w = went s from p n m (found_at s from e) in (w.on, w.within, omega arith);
+      on = λ from p n m e. let w = went s from _ (found_at s from e) in (w.on, w.within, omega arith);
       stops = λ from r e. absurd (omega (arith, (refused_over s from e).0));
       past = sym (step-found s (length s) (omega arith) (sym (none_from s (length s) _ refl (omega arith))));
     }

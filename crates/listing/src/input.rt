@@ -16,6 +16,7 @@ pub(crate) fn read_all(from: &mut impl Read, d: &mut [u8]) -> io::Result<usize>
     ensures { IfOk result (λ n. n ≤ length d.new) }
 {
     let mut done: usize = 0;
+    // No `for`: a read moves by what it brought.
     while done < d.len() {
         let more = from.read(&mut d[done..])?;
         if more == 0 {

@@ -1,4 +1,6 @@
 // A list read into words that the caller lends: three words an entry, its code and its two operands. No list is copied, and words behind the last entry stay as they were: `empty_list` makes them zeros.
+#![tactic(auto, unfolding(crate::specs::ListsLent::at_most66, syntax::specs::Prefix::has_base_marking))]
+
 ghost use Rattle.std.specs.Prelude.{◌≡◌, true, replicate};
 ghost use Rattle.std.proofs.lemmas.List.Edits.{sets};
 ghost use Rattle.bits.specs.Bits.{bits_of};

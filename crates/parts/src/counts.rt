@@ -1,4 +1,6 @@
 // direct_spatial_mv_pred_flag to num_ref_idx_l1_active_minus1.
+#![tactic(auto, unfolding(syntax::specs::SliceHeader::active_counts, syntax::specs::SliceHeader::active_minus1, fmt::specs::Fmt::seq, fmt::specs::Fmt::shaped))]
+
 ghost use Rattle.std.specs.Prelude.{◌≡◌};
 ghost use Rattle.bits.specs.Bits.{bits_of};
 ghost use Rattle.syntax.specs.SliceHeader.{active_counts};

@@ -1,4 +1,6 @@
 // disable_deblocking_filter_idc to slice_group_change_cycle.
+#![tactic(auto, unfolding(syntax::specs::SliceHeader::filter, fmt::specs::Fmt::seq, fmt::specs::Fmt::shaped))]
+
 ghost use Rattle.std.specs.Prelude.{◌≡◌};
 ghost use Rattle.bits.specs.Bits.{bits_of};
 ghost use Rattle.syntax.specs.SliceHeader.{filter};

@@ -1,4 +1,6 @@
 // colour_plane_id to idr_pic_id.
+#![tactic(auto, unfolding(syntax::specs::SliceHeader::frame, fmt::specs::Fmt::seq, fmt::specs::Fmt::shaped, fmt::specs::Leaves::u))]
+
 ghost use Rattle.std.specs.Prelude.{◌≡◌};
 ghost use Rattle.bits.specs.Bits.{bits_of};
 ghost use Rattle.syntax.specs.SliceHeader.{frame};

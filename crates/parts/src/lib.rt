@@ -1,4 +1,5 @@
 // The header's parts without lists, a stage of at most six reads for each: a paragraph of the syntax table.
+// A stage takes each answer apart by `let .. else`, the form that the rules name for the header's stages, and not by `?`.
 #![tactic(auto)]
 
 pub mod frame; // colour_plane_id to idr_pic_id

@@ -1,4 +1,6 @@
 // pic_order_cnt_lsb to redundant_pic_cnt. `field` is field_pic_flag.
+#![tactic(auto, unfolding(syntax::specs::SliceHeader::deltas, syntax::specs::SliceHeader::order_count, fmt::specs::Fmt::seq, fmt::specs::Fmt::shaped))]
+
 ghost use Rattle.std.specs.Prelude.{not, ◌&&◌, ◌≡◌};
 ghost use Rattle.bits.specs.Bits.{bits_of};
 ghost use Rattle.syntax.specs.SliceHeader.{deltas, order_count};

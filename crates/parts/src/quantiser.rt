@@ -1,4 +1,6 @@
 // cabac_init_idc to slice_qs_delta.
+#![tactic(auto, unfolding(syntax::specs::SliceHeader::quantiser, fmt::specs::Fmt::seq, fmt::specs::Fmt::shaped))]
+
 ghost use Rattle.std.specs.Prelude.{◌≡◌};
 ghost use Rattle.bits.specs.Bits.{bits_of};
 ghost use Rattle.syntax.specs.SliceHeader.{quantiser};

@@ -22,7 +22,9 @@ use Rattle.unit.specs.declared.answer.UnitRead.{UnitRead}
 use Rattle.unit.specs.Answer.{slice_answer}
 use Rattle.unit.specs.Begin.{type_in}
 use Rattle.unit.specs.Unit.{unit_read}
-use Rattle.walk.specs.declared.search.Found.{Found}
+use Rattle.std.specs.Prelude.{Some}
+use Rattle.std.proofs.lemmas.Option.{same_Some, none-some}
+use Rattle.walk.specs.declared.search.Span.{Span}
 use Rattle.walk.specs.declared.walk.Step.{Step}
 use Rattle.walk.specs.Walk.{upto, len_of, first_from, unit_at, next_unit}
 use Rattle.walk.specs.Walked.{WalkOut, next_step, reading, walked}
@@ -117,19 +119,19 @@ record At (s : List ℕ) (from p l : ℕ) : Type 0 where
   len : len_of (drop p s) ≡ l
   room : p ≤ length s
 
-found : (s : List ℕ) (from p l n : ℕ) → next_unit s from ≡ Found.At p l n → At s from p l
+found : (s : List ℕ) (from p l n : ℕ) → next_unit s from ≡ Some (record { place = p; length = l; next = n }) → At s from p l
 unfolding next_unit unit_at first_from
 found s from p l n e = go (ltb (from + upto 1 (drop from s)) (length s)) refl
   where
     go : (b : Bool) → ltb (from + upto 1 (drop from s)) (length s) ≡ b → At s from p l
     go true f =
-        let q : Found.At (from + upto 1 (drop from s) + 3) (len_of (drop (from + upto 1 (drop from s) + 3) s)) _ ≡ Found.At p l n = rw f at e in
-        let qp : from + upto 1 (drop from s) + 3 ≡ p = cc in
-        let ql : len_of (drop (from + upto 1 (drop from s) + 3) s) ≡ l = cc in
+        let q : ◌≡◌ {A = Span} (unit_at s (from + upto 1 (drop from s))) (record { place = p; length = l; next = n }) = same_Some _ _ (rw f at e) in
+        let qp : from + upto 1 (drop from s) + 3 ≡ p = λ i. (q i).place in
+        let ql : len_of (drop (from + upto 1 (drop from s) + 3) s) ≡ l = λ i. (q i).length in
         record { code = qp; len = rw qp at ql; room = rw qp at (code-room s from (from + upto 1 (drop from s)) refl (ltb-true _ _ f)) }
-    go false f = let z : ◌≡◌ {A = ℕ} 0 1 = cc (rw f at e) in absurd (omega arith)
+    go false f = absurd (none-some _ (rw f at e))
 
-finds : (s : List ℕ) (from p : ℕ) → from + upto 1 (drop from s) + 3 ≡ p → p ≤ length s → next_unit s from ≡ Found.At p (len_of (drop p s)) (p + upto 0 (drop p s))
+finds : (s : List ℕ) (from p : ℕ) → from + upto 1 (drop from s) + 3 ≡ p → p ≤ length s → next_unit s from ≡ Some (record { place = p; length = len_of (drop p s); next = p + upto 0 (drop p s) })
 unfolding next_unit unit_at first_from
 finds s from p c room = rw (lt-ltb (from + upto 1 (drop from s)) (length s) (omega arith), c)
 
@@ -151,7 +153,7 @@ same_code s s' from p c room same =
 module _ (t : Table) (s s' scratch scratch' : List ℕ) (from p l n e : ℕ) where
   -- a step to a unit reads it
   reads-unit : (walked t s from scratch).walked.step ≡ Step.Unit p l n
-      → (next_unit s from ≡ Found.At p l n) × (walked t s from scratch ≡ reading t p l n (unit_read t (take l (drop p s)) scratch))
+      → (next_unit s from ≡ Some (record { place = p; length = l; next = n })) × (walked t s from scratch ≡ reading t p l n (unit_read t (take l (drop p s)) scratch))
   unfolding walked
   reads-unit q =
       let w : next_step s from ≡ Step.Unit p l n = sym (step_of unit_read t s scratch (next_step s from)) ∙ q in

@@ -1,4 +1,3 @@
 pub mod Taken
-pub mod Tests
 pub mod Round
 pub mod Whole

@@ -26,8 +26,11 @@ use Rattle.weights.specs.WeightsLent.{flag_word, entry_words, weight_words, empt
 use Rattle.lists.proofs.Fronts.{length-flat}
 use Rattle.record.specs.Entries.{is_set_z, operations_in, operations_from, weight_from, weights_in, weights_from}
 use Rattle.record.specs.Record.{is_bit_z, plain_weights}
-use Rattle.record.proofs.Tests.{assoc}
 use Rattle.record.proofs.Taken.{taken, length_taken, operation_from, operations-taken, weights-taken}
+
+assoc : (a b c : Bool) → (a && b) && c ≡ a && (b && c)
+assoc true b c = refl
+assoc false b c = refl
 
 -- ---- words over the front of others
 

@@ -5,16 +5,11 @@ use mathlib.Core.List.{List, [], ◌∷◌, ◌++◌, map}
 use native.Mathlib.Omega.{arith}
 use native.Mathlib.Nat.{add-zero, mul-zero, mul-suc}
 use native.Mathlib.Numerals.{add-one}
-use lib.Dec.{eqb}
-use lib.IntN.{ℤ, pos, negsuc}
+use lib.IntN.{ℤ, pos}
 use lib.ListN.{length, get_or, drop, set, replicate}
 use lib.Seq.{get_or-drop, drop-drop}
-use mir.Syntax.{w32}
-use mir.Val.{SFits, of_z}
-use borrow.Author.Tests.{ne_eqb}
 use Rattle.fmt.specs.Arrays.{pad}
 use Rattle.fmt.proofs.Arrays.{pad-none, pad-next, column-next}
-use Rattle.syntax.specs.Marks.{is_zero_z}
 use Rattle.syntax.specs.Lists.{Operation, entries, to_operations}
 use Rattle.syntax.specs.SliceHeader.{no_weight}
 use Rattle.syntax.specs.declared.record.Operations.{Operations}
@@ -23,11 +18,6 @@ use Rattle.syntax.specs.declared.record.WeightList.{WeightList}
 use Rattle.weights.specs.Counts.{at_most32}
 use Rattle.lists.specs.ListsLent.{at_most66}
 use Rattle.record.specs.Entries.{operations_in, operations_from, is_set_z, weight_from, weights_in, weights_from}
-
--- a signed number is zero where its bits are
-pub zero_bits : (z : ℤ) → SFits w32 z → eqb (of_z w32 z) 0 ≡ is_zero_z z
-zero_bits (pos n) f = refl
-zero_bits (negsuc n) f = ne_eqb (of_z w32 (negsuc n)) 0 (λ h. omega (arith, h, f.sfits))
 
 -- ---- entries of k words each
 

@@ -36,12 +36,29 @@ fn flag_at(words: &[i32; 256], k: usize) -> bool
     words[k] != 0
 }
 
-// Entry i.
-fn weight_at(words: &[i32; 256], i: usize) -> Weight
-    requires { i < 32 }
+fn no_entry() -> Weight
+    ensures { result ≡ no_weight }
+{
+    Weight {
+        luma_weight_flag: false,
+        luma_weight: 0,
+        luma_offset: 0,
+        chroma_weight_flag: false,
+        cb_weight: 0,
+        cb_offset: 0,
+        cr_weight: 0,
+        cr_offset: 0,
+    }
+}
+
+// The entry at i: eight words in the syntax's order; zeros behind the last.
+pub fn weight_at(words: &[i32; 256], i: u32) -> Weight
     ensures { result ≡ weight_from (drop (8 * i) words.now) }
 {
-    let k = 8 * i;
+    if 32 <= i {
+        return no_entry();
+    }
+    let k = 8 * i as usize;
     Weight {
         luma_weight_flag: flag_at(words, k),
         luma_weight: words[k + 1],
@@ -54,30 +71,13 @@ fn weight_at(words: &[i32; 256], i: usize) -> Weight
     }
 }
 
-fn no_entries() -> [Weight; 32]
-    ensures { result ≡ replicate 32 no_weight }
-{
-    let none = Weight {
-        luma_weight_flag: false,
-        luma_weight: 0,
-        luma_offset: 0,
-        chroma_weight_flag: false,
-        cb_weight: 0,
-        cb_offset: 0,
-        cr_weight: 0,
-        cr_offset: 0,
-    };
-    [none; 32]
-}
-
 pub fn weights_of(count: u32, words: &[i32; 256]) -> WeightList
     ensures { result ≡ weights_from count words.now }
 {
     let used = at_most_32(count);
-    let mut entries = no_entries();
+    let mut entries = [no_entry(); 32];
     for i in 0..used {
-        let k = i as usize;
-        entries[k] = weight_at(words, k);
+        entries[i as usize] = weight_at(words, i);
     }
     WeightList {
         count: used,

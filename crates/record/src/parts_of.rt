@@ -1,4 +1,6 @@
 // The parts of a header that have no lists, out of its words.
+#![tactic(auto, unfolding(crate::specs::Fields::frame_from, crate::specs::Fields::order_count_from, crate::specs::Fields::active_counts_from, crate::specs::Fields::quantiser_from, crate::specs::Fields::filter_from))]
+
 ghost use Rattle.std.specs.Prelude.{◌≡◌, ◌<◌};
 ghost use Rattle.record.specs.Fields.{marked_number, marked_flag, marked_signed, frame_from, order_count_from, active_counts_from, quantiser_from, filter_from};
 

@@ -1,5 +1,7 @@
 // Whether words say what they say in one way: marks and flags are 0 or 1, and no count is over its list's capacity. Nothing returns early: tests without
 // branches are cheaper, and nearly all words pass.
+#![tactic(auto, unfolding(crate::specs::Record::plain_numbers))]
+
 ghost use Rattle.std.specs.Prelude.{◌≡◌, ◌&&◌, [], ◌∷◌, ◌<◌, take, drop};
 ghost use Rattle.record.specs.Record.{withins, flags, plain_numbers};
 

@@ -1,4 +1,6 @@
 // The record that lent words hold, taken out of them.
+#![tactic(auto, unfolding(crate::specs::Record::header_from, crate::specs::Record::prefix_from))]
+
 ghost use Rattle.std.specs.Prelude.{◌≡◌};
 ghost use Rattle.record.specs.Record.{modifications_from, weight_table_from, marking_from, header_from, prefix_from};
 ghost use Rattle.header.specs.Short.{words_in};

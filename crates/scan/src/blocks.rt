@@ -128,6 +128,7 @@ fn pass_large(s: &[u8], from: usize, mask: u8, flip: u8) -> usize
 {
     let n = s.len();
     let mut i = from;
+    // No `for`: it goes on by blocks and ends at the first that is not clear.
     while 130 <= n - i {
         if is_passed_large(s, i, mask, flip) {
             i += 128;
@@ -145,6 +146,7 @@ fn pass_small(s: &[u8], from: usize, mask: u8, flip: u8) -> usize
 {
     let n = s.len();
     let mut i = from;
+    // No `for`, for the same reason.
     while 18 <= n - i {
         if is_passed(s, i, 8, mask, flip) {
             i += 16;

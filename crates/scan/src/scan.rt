@@ -34,6 +34,7 @@ fn seek_plain(s: &[u8], from: usize, low: u8, high: u8) -> usize
 {
     let n = s.len();
     let mut i = from;
+    // No `for`: it goes on by one or by three.
     while 2 < n - i {
         if high < s[i + 2] {
             i += 3;

@@ -1,6 +1,6 @@
 // A unit's item: what a stacker takes of it, from what reading it answered and the words of a slice's fields.
 ghost use Rattle.std.specs.Prelude.{◌≡◌};
-ghost use Rattle.header.specs.Lead.{table_of};
+ghost use Rattle.header.specs.Lead.{table_in};
 ghost use Rattle.syntax.specs.Context.{no_sequence, picture_in, sequence_in};
 ghost use Rattle.table.specs.Tables as tables;
 ghost use Rattle.unit.specs.Begin.{is_plain};
@@ -13,6 +13,7 @@ use fields::quant::level;
 use record::parts_of::{frame_of, order_count_of};
 use syntax::marks::Marked;
 use table::sets::Sequence;
+use table::table::Sets;
 use table::words::{picture_in, sequence_in};
 use unit::into::ShortAnswer;
 
@@ -65,15 +66,14 @@ fn sequence_of(sequences: &[u32; 224], id: u32) -> Sequence
 }
 
 fn slice_of<'a>(
-    sequences: &'a [u32; 224],
-    pictures: &'a [u32; 2304],
+    sets: Sets<'a>,
     place: usize,
     nal_unit_type: u8,
     nal_ref_idc: u8,
     numbers: &'a [u32; 57],
     signed: &'a [i32; 7],
 ) -> Slice
-    ensures { result ≡ slice_of (table_of sequences.now pictures.now) place nal_unit_type nal_ref_idc (held_in numbers.now signed.now) }
+    ensures { result ≡ slice_of (table_in sets.entry) place nal_unit_type nal_ref_idc (held_in numbers.now signed.now) }
 {
     // as the words have them: header::words
     let bottom = signed[0] as i64;
@@ -81,8 +81,8 @@ fn slice_of<'a>(
     let second = signed[2] as i64;
     let id = numbers[2];
     let lsb = numbers[14];
-    let p = named(pictures, id);
-    let s = sequence_of(sequences, p.seq_parameter_set_id);
+    let p = named(sets.pictures, id);
+    let s = sequence_of(sets.sequences, p.seq_parameter_set_id);
     let f = frame_of(numbers);
     let qp = level(p.pic_init_qp_minus26, signed[3]);
     Slice {
@@ -119,15 +119,14 @@ fn is_plain(t: u8) -> bool
 
 // A unit that has a slice header.
 fn header_item<'a>(
-    sequences: &'a [u32; 224],
-    pictures: &'a [u32; 2304],
+    sets: Sets<'a>,
     place: usize,
     nal_unit_type: u8,
     nal_ref_idc: u8,
     numbers: &'a [u32; 57],
     signed: &'a [i32; 7],
 ) -> Item
-    ensures { result ≡ header_item (table_of sequences.now pictures.now) place nal_unit_type nal_ref_idc (held_in numbers.now signed.now) }
+    ensures { result ≡ header_item (table_in sets.entry) place nal_unit_type nal_ref_idc (held_in numbers.now signed.now) }
 {
     if !is_plain(nal_unit_type) {
         return Item::Unit(Kind::View);
@@ -136,22 +135,13 @@ fn header_item<'a>(
     if is_redundant(o.redundant_pic_cnt) {
         return Item::Unit(Kind::Redundant);
     }
-    Item::Slice(slice_of(
-        sequences,
-        pictures,
-        place,
-        nal_unit_type,
-        nal_ref_idc,
-        numbers,
-        signed,
-    ))
+    Item::Slice(slice_of(sets, place, nal_unit_type, nal_ref_idc, numbers, signed))
 }
 
 // A unit, by the table in force, where it begins, its head's type and nal_ref_idc, and what reading its body answered: of a slice the words hold the header. Other
 // answers look at no word.
 pub fn item_of<'a>(
-    sequences: &'a [u32; 224],
-    pictures: &'a [u32; 2304],
+    sets: Sets<'a>,
     place: usize,
     nal_unit_type: u8,
     nal_ref_idc: u8,
@@ -159,12 +149,11 @@ pub fn item_of<'a>(
     numbers: &'a [u32; 57],
     signed: &'a [i32; 7],
 ) -> Item
-    ensures { result ≡ item_of (table_of sequences.now pictures.now) place nal_unit_type nal_ref_idc (long_answer answer) (held_in numbers.now signed.now) }
+    ensures { result ≡ item_of (table_in sets.entry) place nal_unit_type nal_ref_idc (long_answer answer) (held_in numbers.now signed.now) }
 {
     match answer {
         ShortAnswer::Slice(_) => header_item(
-            sequences,
-            pictures,
+            sets,
             place,
             nal_unit_type,
             nal_ref_idc,

@@ -19,7 +19,7 @@ pub struct UnitKind {
 #[repr(C)]
 #[derive(Clone, Copy)]
 pub struct PrefixKind {
-    // the body is read: the extension is SVC, and nal_ref_idc is not 0
+    // the body is read: the extension is SVC, and nal_ref_idc is not 0. A condition, and no mark of the two flags below: they are the extension's, read or not
     pub there: bool,
     // the extension's, clear where it is MVC
     pub use_ref_base_pic_flag: bool,

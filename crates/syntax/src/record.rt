@@ -12,7 +12,7 @@ pub struct Frame {
     pub idr_pic_id: Marked<u32>,
 }
 
-// delta_pic_order_cnt[0] and [1]: there where the order count type is 1, both zero where the sequence set says so.
+// delta_pic_order_cnt[0] and [1]: there where the order count type is 1, both zero where the sequence set says so. A mark and no Option, as in `Marked`.
 #[repr(C)]
 #[derive(Clone, Copy)]
 pub struct Deltas {
@@ -86,6 +86,7 @@ pub struct WeightList {
     pub entries: [Weight; 32],
 }
 
+// A mark and no Option, as in `Marked`.
 #[repr(C)]
 #[derive(Clone, Copy)]
 pub struct PredWeightTable {

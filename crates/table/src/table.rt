@@ -13,6 +13,13 @@ pub struct Table {
     pub pictures: [u32; 2304],
 }
 
+// A table's two arrays, lent to be read: they stand apart, since a host lends them one by one.
+#[derive(Clone, Copy)]
+pub struct Sets<'a> {
+    pub sequences: &'a [u32; 224],
+    pub pictures: &'a [u32; 2304],
+}
+
 // A table's answer beside the table, where it goes by value.
 #[derive(Clone, Copy)]
 pub struct WithTable {

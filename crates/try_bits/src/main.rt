@@ -14,6 +14,7 @@ use std::io::{self, Read};
 // To the front of `d`, until it is full or the input ends.
 fn fill(from: &mut impl Read, d: &mut [u8]) -> io::Result<()> {
     let mut done: usize = 0;
+    // No `for`: a read moves by what it brought.
     while done < d.len() {
         let more = from.read(&mut d[done..])?;
         if more == 0 {

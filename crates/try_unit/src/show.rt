@@ -4,7 +4,7 @@ use std::io;
 use syntax::marks::Marked;
 use syntax::record::{Prefix, SliceHeader};
 use table::sets::{Picture, Sequence};
-use table::table::{Table, empty, with_picture, with_sequence};
+use table::table::{Sets, Table, empty, with_picture, with_sequence};
 use unit::answer::UnitAnswer;
 use unit::head::{UnitHead, head};
 use unit::unit::read_body_in;
@@ -90,7 +90,11 @@ pub(crate) fn shown_for(
 fn body(rt: &impl Print, head: UnitHead, bytes: &[u8], value: i64, said: &[u8]) -> io::Result<()> {
     let t = sample_table();
     let mut scratch = [0u8; 128];
-    let r = read_body_in(head, &t.sequences, &t.pictures, bytes, &mut scratch);
+    let sets = Sets {
+        sequences: &t.sequences,
+        pictures: &t.pictures,
+    };
+    let r = read_body_in(head, sets, bytes, &mut scratch);
     let answer = r.answer;
     let h = r.header;
     let p = r.prefix;

@@ -5,6 +5,7 @@ use super::shown::{line, started};
 use super::words::put;
 use super::{sets, show};
 use std::io;
+use table::table::Sets;
 
 // The place after a name's colon.
 fn name_end(s: &[u8], from: usize) -> usize {
@@ -94,13 +95,7 @@ fn changes(
 }
 
 // A record, written and read back. The place after it.
-fn case<'a>(
-    rt: &impl Print,
-    sequences: &'a [u32; 224],
-    pictures: &'a [u32; 2304],
-    s: &[u8],
-    from: usize,
-) -> io::Result<usize> {
+fn case(rt: &impl Print, sets: Sets<'_>, s: &[u8], from: usize) -> io::Result<usize> {
     let at = name_end(s, from);
     name(rt, s, from, at)?;
     let first = number_at(s, at);
@@ -129,8 +124,7 @@ fn case<'a>(
     );
     line(
         rt,
-        sequences,
-        pictures,
+        sets,
         started(first.size, there.size, b1.size),
         &numbers,
         &signed,
@@ -144,17 +138,10 @@ fn case<'a>(
     Ok(next)
 }
 
-fn each<'a>(
-    rt: &impl Print,
-    sequences: &'a [u32; 224],
-    pictures: &'a [u32; 2304],
-    s: &[u8],
-    from: usize,
-    n: u32,
-) -> io::Result<()> {
+fn each(rt: &impl Print, sets: Sets<'_>, s: &[u8], from: usize, n: u32) -> io::Result<()> {
     let mut at = from;
     for _ in 0..n {
-        at = case(rt, sequences, pictures, s, at)?;
+        at = case(rt, sets, s, at)?;
     }
     Ok(())
 }
@@ -162,5 +149,9 @@ fn each<'a>(
 pub(crate) fn all(rt: &impl Print, s: &[u8]) -> io::Result<()> {
     let t = sets::all();
     let n = number_at(s, 0);
-    each(rt, &t.sequences, &t.pictures, s, n.next, n.size)
+    let lent = Sets {
+        sequences: &t.sequences,
+        pictures: &t.pictures,
+    };
+    each(rt, lent, s, n.next, n.size)
 }

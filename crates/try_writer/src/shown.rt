@@ -5,6 +5,7 @@ use bits::read::Cursor;
 use bits::refusals::Refusal;
 use header::slice::Words;
 use std::io;
+use table::table::Sets;
 use unit::head::head;
 use unit::into::{AllWords, ShortAnswer, read_body_into};
 use writer::given::ExtensionGiven;
@@ -101,24 +102,17 @@ fn told(rt: &impl Print, answer: ShortAnswer, bits: usize, is_same: bool) -> io:
 }
 
 // A unit's head, and then its body.
-fn read_in_turn<'a>(
-    sequences: &'a [u32; 224],
-    pictures: &'a [u32; 2304],
-    u: &[u8],
-    scratch: &mut [u8],
-    w: &mut AllWords<'_>,
-) -> ShortAnswer {
+fn read_in_turn(sets: Sets<'_>, u: &[u8], scratch: &mut [u8], w: &mut AllWords<'_>) -> ShortAnswer {
     match head(u) {
-        Ok(h) => read_body_into(h, sequences, pictures, u, scratch, w),
+        Ok(h) => read_body_into(h, sets, u, scratch, w),
         Err(r) => ShortAnswer::Refused(r),
     }
 }
 
 // The first n bytes read as a unit, and its record compared.
-fn read_part<'a>(
+fn read_part(
     rt: &impl Print,
-    sequences: &'a [u32; 224],
-    pictures: &'a [u32; 2304],
+    sets: Sets<'_>,
     u: &[u8],
     n: usize,
     numbers: &[u32; 57],
@@ -153,7 +147,7 @@ fn read_part<'a>(
             header,
             base: &mut base,
         };
-        let answer = read_in_turn(sequences, pictures, &u[..n], &mut scratch, &mut w);
+        let answer = read_in_turn(sets, &u[..n], &mut scratch, &mut w);
         let is_same = same::header(
             numbers, signed, l0, l1, marking, w0, w1, &numbers2, &signed2, &m0, &m1, &marking2,
             &v0, &v1,
@@ -164,10 +158,9 @@ fn read_part<'a>(
     Ok(())
 }
 
-fn read_back<'a>(
+fn read_back(
     rt: &impl Print,
-    sequences: &'a [u32; 224],
-    pictures: &'a [u32; 2304],
+    sets: Sets<'_>,
     u: &[u8; 9216],
     n: usize,
     numbers: &[u32; 57],
@@ -180,15 +173,14 @@ fn read_back<'a>(
     bits: usize,
 ) -> io::Result<()> {
     read_part(
-        rt, sequences, pictures, u, n, numbers, signed, l0, l1, marking, w0, w1, bits,
+        rt, sets, u, n, numbers, signed, l0, l1, marking, w0, w1, bits,
     )
 }
 
 // Nine set bits follow the header, and so something after the first bit.
-fn back<'a>(
+fn back(
     rt: &impl Print,
-    sequences: &'a [u32; 224],
-    pictures: &'a [u32; 2304],
+    sets: Sets<'_>,
     s: Start,
     numbers: &[u32; 57],
     signed: &[i32; 7],
@@ -204,14 +196,13 @@ fn back<'a>(
     let mut u = [0u8; 9216];
     let n = built::unit(&mut u, s.first, s.extension, d, bits / 8 + 3);
     read_back(
-        rt, sequences, pictures, &u, n, numbers, signed, l0, l1, marking, w0, w1, bits,
+        rt, sets, &u, n, numbers, signed, l0, l1, marking, w0, w1, bits,
     )
 }
 
 // The first `room` bytes of the buffer are lent, or all of it.
-fn written<'a>(
-    sequences: &'a [u32; 224],
-    pictures: &'a [u32; 2304],
+fn written(
+    sets: Sets<'_>,
     s: Start,
     numbers: &[u32; 57],
     signed: &[i32; 7],
@@ -225,8 +216,7 @@ fn written<'a>(
 ) -> Result<usize, Refusal> {
     if room <= d.len() {
         return write_words_in(
-            sequences,
-            pictures,
+            sets,
             s.first,
             s.extension,
             numbers,
@@ -240,8 +230,7 @@ fn written<'a>(
         );
     }
     write_words_in(
-        sequences,
-        pictures,
+        sets,
         s.first,
         s.extension,
         numbers,
@@ -256,10 +245,9 @@ fn written<'a>(
 }
 
 // A record written into the first `room` bytes of a buffer that is filled with a5.
-pub(crate) fn line<'a>(
+pub(crate) fn line(
     rt: &impl Print,
-    sequences: &'a [u32; 224],
-    pictures: &'a [u32; 2304],
+    sets: Sets<'_>,
     s: Start,
     numbers: &[u32; 57],
     signed: &[i32; 7],
@@ -272,12 +260,12 @@ pub(crate) fn line<'a>(
 ) -> io::Result<()> {
     let mut d = [0xa5u8; 6144];
     match written(
-        sequences, pictures, s, numbers, signed, l0, l1, marking, w0, w1, &mut d, room,
+        sets, s, numbers, signed, l0, l1, marking, w0, w1, &mut d, room,
     ) {
         Ok(n) => {
             bytes(rt, &d, n)?;
             back(
-                rt, sequences, pictures, s, numbers, signed, l0, l1, marking, w0, w1, &mut d, n,
+                rt, sets, s, numbers, signed, l0, l1, marking, w0, w1, &mut d, n,
             )?;
         }
         Err(r) => {

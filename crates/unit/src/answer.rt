@@ -11,7 +11,6 @@ use parameter_sets::picture::PictureSet;
 use parameter_sets::sequence::SequenceSet;
 use syntax::marks::Marked;
 use syntax::record::{Prefix, SliceHeader};
-use table::sets::{Picture, Sequence};
 
 #[derive(Clone, Copy)]
 pub enum UnitAnswer {

@@ -1,7 +1,7 @@
 // A unit's body read into words that the caller lends: the answer holds neither fields nor lists of a header, so no record is copied on its way to the caller.
 ghost use Rattle.std.specs.Prelude.{◌≡◌, List, ℕ, ◌≤◌, length};
 ghost use Rattle.bits.specs.Refusals.{limit};
-ghost use Rattle.header.specs.Lead.{table_of};
+ghost use Rattle.header.specs.Lead.{table_in};
 ghost use Rattle.unit.specs.Unit.{slice_bits, prefix_bits, sequence_bits, picture_bits};
 ghost use Rattle.unit.specs.Known.{in_known, unit_known, body_known};
 ghost use Rattle.unit.specs.Begin.{begun, begun_by};
@@ -19,7 +19,7 @@ use lists::list_words::{PrefixShort, clear_list, prefix_into};
 use parameter_sets::picture::{PictureSet, picture_set};
 use parameter_sets::sequence::{SequenceSet, sequence_set};
 use syntax::context::{PrefixKind, UnitKind};
-use table::sets::{Picture, Sequence};
+use table::table::Sets;
 
 // All words that a caller lends.
 #[derive(Drop)]
@@ -28,6 +28,7 @@ pub struct AllWords<'a> {
     pub base: &'a mut [u32; 198],
 }
 
+// A report has one of six outcomes, and a refusal is one of them: nobody goes on behind another, so it is no `Result`.
 #[derive(Clone, Copy)]
 pub enum ShortAnswer {
     // a slice header, of so many bits, which stands in the words
@@ -78,9 +79,8 @@ fn picture_short(a: Read<PictureSet>) -> ShortAnswer
 }
 
 // The body of a slice, which goes to scratch.
-fn slice_into<'a>(
-    sequences: &'a [u32; 224],
-    pictures: &'a [u32; 2304],
+fn slice_into(
+    sets: Sets<'_>,
     unit: &[u8],
     known: usize,
     scratch: &mut [u8],
@@ -89,11 +89,11 @@ fn slice_into<'a>(
     w: &mut Words<'_>,
 ) -> ShortAnswer
     requires { length unit.now ≤ limit }
-    ensures taken { (b : List ℕ) → Taken (in_known known (slice_bits (table_of sequences.now pictures.now) kind) unit.now from scratch.old) result scratch.new (record { header = words_in w.old; base = b }) (record { header = words_in w.new; base = b }) }
+    ensures taken { (b : List ℕ) → Taken (in_known known (slice_bits (table_in sets.entry) kind) unit.now from scratch.old) result scratch.new (record { header = words_in w.old; base = b }) (record { header = words_in w.new; base = b }) }
     ensures same { SameArrays w.old w.new }
 {
     match unescape_known(unit, from, known, scratch) {
-        Ok(n) => slice_short(read_header_into(&scratch[..n], kind, sequences, pictures, w)),
+        Ok(n) => slice_short(read_header_into(&scratch[..n], kind, sets, w)),
         Err(r) => ShortAnswer::Refused(r),
     }
 }
@@ -137,23 +137,21 @@ fn picture_into(unit: &[u8], known: usize, scratch: &mut [u8]) -> ShortAnswer
 }
 
 // A unit whose head has been compared; of the words beside a refusal nothing is said.
-fn take<'a>(
+fn take(
     head: UnitHead,
-    sequences: &'a [u32; 224],
-    pictures: &'a [u32; 2304],
+    sets: Sets<'_>,
     unit: &[u8],
     known: usize,
     scratch: &mut [u8],
     w: &mut AllWords<'_>,
 ) -> ShortAnswer
     requires { begun unit.now ≡ begun_by head }
-    ensures taken { Taken (unit_known known (table_of sequences.now pictures.now) unit.now scratch.old) result scratch.new (lent_in w.old) (lent_in w.new) }
+    ensures taken { Taken (unit_known known (table_in sets.entry) unit.now scratch.old) result scratch.new (lent_in w.old) (lent_in w.new) }
     ensures same { SameLent w.old w.new }
 {
     match begun_by(head) {
         Begun::Slice(kind, from) => slice_into(
-            sequences,
-            pictures,
+            sets,
             unit,
             known,
             scratch,
@@ -181,20 +179,19 @@ impl AllWords<'_> {
 }
 
 // A unit whose head has been compared, with zeros in all words beside a refusal.
-fn read_into<'a>(
+fn read_into(
     head: UnitHead,
-    sequences: &'a [u32; 224],
-    pictures: &'a [u32; 2304],
+    sets: Sets<'_>,
     unit: &[u8],
     known: usize,
     scratch: &mut [u8],
     w: &mut AllWords<'_>,
 ) -> ShortAnswer
     requires { begun unit.now ≡ begun_by head }
-    ensures read { ReadInto (unit_known known (table_of sequences.now pictures.now) unit.now scratch.old) result scratch.new (lent_in w.old) (lent_in w.new) }
+    ensures read { ReadInto (unit_known known (table_in sets.entry) unit.now scratch.old) result scratch.new (lent_in w.old) (lent_in w.new) }
     ensures same { SameLent w.old w.new }
 {
-    match take(head, sequences, pictures, unit, known, scratch, w) {
+    match take(head, sets, unit, known, scratch, w) {
         ShortAnswer::Slice(n) => ShortAnswer::Slice(n),
         ShortAnswer::Prefix(p) => ShortAnswer::Prefix(p),
         ShortAnswer::Sequence(v) => ShortAnswer::Sequence(v),
@@ -211,36 +208,34 @@ fn read_into<'a>(
 // before all else. The unit is read by the sets in a table's two arrays; its bytes before `known` are taken as they stand, and not searched. Until the body is known to
 // fit, scratch is untouched; after that it starts with the body, whatever the answer. A slice's header goes to the words of its fields and lists, over zeros where the
 // counts said that a list was, and a prefix unit's list to `base`, over zeros; all other words stay as they were. Beside a refusal all words are zeros.
-pub fn read_known_into<'a>(
+pub fn read_known_into(
     head: UnitHead,
-    sequences: &'a [u32; 224],
-    pictures: &'a [u32; 2304],
+    sets: Sets<'_>,
     unit: &[u8],
     known: usize,
     scratch: &mut [u8],
     w: &mut AllWords<'_>,
 ) -> ShortAnswer
-    ensures read { ReadInto (body_known known (table_of sequences.now pictures.now) head unit.now scratch.old) result scratch.new (lent_in w.old) (lent_in w.new) }
+    ensures read { ReadInto (body_known known (table_in sets.entry) head unit.now scratch.old) result scratch.new (lent_in w.old) (lent_in w.new) }
     ensures same { SameLent w.old w.new }
 {
     if !is_head_of(head, unit) {
         w.clear();
         return ShortAnswer::Refused(refuse(NOT_ITS_HEAD, 0));
     }
-    read_into(head, sequences, pictures, unit, known, scratch, w)
+    read_into(head, sets, unit, known, scratch, w)
 }
 
 // The same where nothing is known.
-pub fn read_body_into<'a>(
+pub fn read_body_into(
     head: UnitHead,
-    sequences: &'a [u32; 224],
-    pictures: &'a [u32; 2304],
+    sets: Sets<'_>,
     unit: &[u8],
     scratch: &mut [u8],
     w: &mut AllWords<'_>,
 ) -> ShortAnswer
-    ensures read { ReadInto (body_read (table_of sequences.now pictures.now) head unit.now scratch.old) result scratch.new (lent_in w.old) (lent_in w.new) }
+    ensures read { ReadInto (body_read (table_in sets.entry) head unit.now scratch.old) result scratch.new (lent_in w.old) (lent_in w.new) }
     ensures same { SameLent w.old w.new }
 {
-    read_known_into(head, sequences, pictures, unit, 0, scratch, w)
+    read_known_into(head, sets, unit, 0, scratch, w)
 }

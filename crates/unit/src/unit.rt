@@ -1,6 +1,6 @@
 // A unit's body by value: read into words, from which its records are taken.
 ghost use Rattle.std.specs.Prelude.{◌≡◌};
-ghost use Rattle.header.specs.Lead.{table_of};
+ghost use Rattle.header.specs.Lead.{table_in};
 ghost use Rattle.unit.specs.Head.{body_read};
 
 use crate::answer::{UnitRead, long_answer, prefix_in};
@@ -8,17 +8,12 @@ use crate::head::UnitHead;
 use crate::into::{AllWords, read_body_into};
 use header::slice::Words;
 use record::record::{header_of, prefix_of};
+use table::table::Sets;
 
 // The body of a unit, for whoever has its head, by the sets in a table's two arrays. Scratch is left as `read_body_into` leaves it. The words start as zeros, and are zeros again where the answer
 // speaks of no header and no list, so that what they hold is right for every answer.
-pub fn read_body_in<'a>(
-    head: UnitHead,
-    sequences: &'a [u32; 224],
-    pictures: &'a [u32; 2304],
-    unit: &[u8],
-    scratch: &mut [u8],
-) -> UnitRead
-    ensures { (result ≡ (body_read (table_of sequences.now pictures.now) head unit.now scratch.old).read) × (scratch.new ≡ (body_read (table_of sequences.now pictures.now) head unit.now scratch.old).left) }
+pub fn read_body_in(head: UnitHead, sets: Sets<'_>, unit: &[u8], scratch: &mut [u8]) -> UnitRead
+    ensures { (result ≡ (body_read (table_in sets.entry) head unit.now scratch.old).read) × (scratch.new ≡ (body_read (table_in sets.entry) head unit.now scratch.old).left) }
 {
     let mut numbers = [0u32; 57];
     let mut signed = [0i32; 7];
@@ -41,7 +36,7 @@ pub fn read_body_in<'a>(
         header,
         base: &mut base,
     };
-    let a = read_body_into(head, sequences, pictures, unit, scratch, &mut w);
+    let a = read_body_into(head, sets, unit, scratch, &mut w);
     UnitRead {
         answer: long_answer(a),
         header: header_of(&w.header),

@@ -10,7 +10,9 @@ use borrow.Author.Tests.{le-leb, leb-true, ltb-true, ltb-false}
 use lib.ListN.{length, take, drop, length-drop}
 use lib.Seq.{drop-drop, drop-length}
 use Rattle.bits.specs.Refusals.{pick}
-use Rattle.walk.specs.declared.search.Found.{Found}
+use Rattle.std.specs.Prelude.{Some, None}
+use Rattle.std.proofs.lemmas.Option.{same_Some, none-some}
+use Rattle.walk.specs.declared.search.Span.{Span as Found}
 use Rattle.walk.specs.Walk.{hit, upto, kept, len_of, first_from, unit_at, next_unit}
 use Rattle.walk.specs.Units.{Span, span_of, units_at}
 use Rattle.walk.proofs.Hits.{hit-first, hit-second, upto_le, upto-at, code-room}
@@ -106,18 +108,18 @@ pub record Went (s : List ℕ) (from p l m : ℕ) : Type 0 where
   pub inside : p + l ≤ m
   pub there : units_at from (drop from s) ≡ record { place = p; size = l; next = m; read = take l (drop p s) } ∷ units_at m (drop m s)
 
-pub went : (s : List ℕ) (from p l m : ℕ) → next_unit s from ≡ Found.At p l m → Went s from p l m
+pub went : (s : List ℕ) (from : ℕ) (u : Found) → next_unit s from ≡ Some u → Went s from u.place u.length u.next
 unfolding next_unit unit_at first_from
-went s from p l m e = go (from + upto 1 (drop from s)) refl (ltb (from + upto 1 (drop from s)) (length s)) refl
+went s from u e = go (from + upto 1 (drop from s)) refl (ltb (from + upto 1 (drop from s)) (length s)) refl
   where
-    go : (at : ℕ) → at ≡ from + upto 1 (drop from s) → (t : Bool) → ltb (from + upto 1 (drop from s)) (length s) ≡ t → Went s from p l m
+    go : (at : ℕ) → at ≡ from + upto 1 (drop from s) → (t : Bool) → ltb (from + upto 1 (drop from s)) (length s) ≡ t → Went s from u.place u.length u.next
     go at d true f =
         let b = drop (at + 3) s in
         let lt : at < length s = ltb-true at (length s) (rw d f) in
-        let q : Found.At (at + 3) (len_of b) (at + 3 + upto 0 b) ≡ Found.At p l m = rw (f, ← d) at e in
-        let qp : at + 3 ≡ p = cc in
-        let ql : len_of b ≡ l = cc in
-        let qm : at + 3 + upto 0 b ≡ m = cc in
+        let q : ◌≡◌ {A = Found} (record { place = at + 3; length = len_of b; next = at + 3 + upto 0 b }) u = same_Some _ _ (rw (f, ← d) at e) in
+        let qp : at + 3 ≡ u.place = λ i. (q i).place in
+        let ql : len_of b ≡ u.length = λ i. (q i).length in
+        let qm : at + 3 + upto 0 b ≡ u.next = λ i. (q i).next in
         let room : at + 3 ≤ length s = code-room s from at d lt in
         let lb : length b ≡ length s - (at + 3) = length-drop (at + 3) s in
         record {
@@ -126,14 +128,14 @@ went s from p l m e = go (from + upto 1 (drop from s)) refl (ltb (from + upto 1 
           inside = omega (arith, len-le b);
           there = rw (← qp, ← ql, ← qm) (one_on s from at d lt);
         }
-    go at d false f = let z : ◌≡◌ {A = ℕ} 0 1 = cc (rw f at e) in absurd (omega arith)
+    go at d false f = absurd (none-some u (rw f at e))
 
-pub ended : (s : List ℕ) (from : ℕ) → next_unit s from ≡ Found.End → units_at from (drop from s) ≡ []
+pub ended : (s : List ℕ) (from : ℕ) → next_unit s from ≡ None → units_at from (drop from s) ≡ []
 unfolding next_unit unit_at first_from
 ended s from e = go (ltb (from + upto 1 (drop from s)) (length s)) refl
   where
     go : (t : Bool) → ltb (from + upto 1 (drop from s)) (length s) ≡ t → units_at from (drop from s) ≡ []
-    go true f = let z : ◌≡◌ {A = ℕ} 0 1 = cc (rw f at e) in absurd (omega arith)
+    go true f = absurd (none-some _ (sym (rw f at e)))
     go false f =
         let ge : length s ≤ from + upto 1 (drop from s) = ltb-false (from + upto 1 (drop from s)) (length s) f in
         no_more from (drop from s) (rw length-drop (omega arith))

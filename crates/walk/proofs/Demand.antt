@@ -33,7 +33,7 @@ use Rattle.walk.proofs.Reports.{Fair, Meets, chain-all, answer, step, of-run, ta
 units-met : (s : List ℕ) → length s ≤ limit → Meets s (next_step s) (λ from. units_at from (drop from s))
 units-met s small =
     record {
-      on = λ from p l n e. let w = went s from p l n (found_at s from e) in (w.on, w.there);
+      on = λ from p l n e. let w = went s from _ (found_at s from e) in (w.on, w.there);
       ended = λ from e. ended s from (found-end s from e);
       stopped = λ from r e. let h = refused_over s from e in absurd (omega (arith, h.0));
       past = λ from h. rw (drop_of_length-le s h);

@@ -16,7 +16,8 @@ use Rattle.unit.specs.Unit.{unit_read}
 use Rattle.unit.specs.Known.{unit_known}
 use Rattle.unit.specs.Into.{Lent}
 use Rattle.unit.proofs.Known.{known_same}
-use Rattle.walk.specs.declared.search.Found.{Found}
+use Rattle.std.specs.Prelude.{Option, Some, None}
+use Rattle.walk.specs.declared.search.Span.{Span}
 use Rattle.walk.specs.declared.search.Seen.{Seen}
 use Rattle.walk.specs.Walk.{unit_at, next_unit}
 use Rattle.walk.specs.Seen.{clear_in, next_seen}
@@ -28,25 +29,25 @@ use Rattle.walk.proofs.Steps.{turned_as}
 pub stop-room : (s : List ℕ) (place stop : ℕ) → place ≤ length s → stop ≡ place + upto 0 3 (drop place s) → stop ≤ length s
 stop-room s place stop h e = omega (arith, upto_le 0 3 (drop place s), length-drop place s)
 
-seen_as : (s : List ℕ) (from : ℕ) {f : Found} → f ≡ next_unit s from → ◌≡◌ {A = Seen} (record { found = f; clear = clear_in s f }) (next_seen s from)
+seen_as : (s : List ℕ) (from : ℕ) {f : Option Span} → f ≡ next_unit s from → ◌≡◌ {A = Seen} (record { found = f; clear = clear_in s f }) (next_seen s from)
 seen_as s from e = λ i. record { found = e i; clear = clear_in s (e i) }
 
-pub seen_none : (s : List ℕ) (from : ℕ) → Found.End ≡ next_unit s from → ◌≡◌ {A = Seen} (record { found = Found.End; clear = 0 }) (next_seen s from)
+pub seen_none : (s : List ℕ) (from : ℕ) → None ≡ next_unit s from → ◌≡◌ {A = Seen} (record { found = None; clear = 0 }) (next_seen s from)
 seen_none s from e = seen_as s from e
 
-pub seen-there : (s : List ℕ) (from at stop : ℕ) → stop ≡ at + 3 + upto 0 3 (drop (at + 3) s) → {f : Found} → f ≡ unit_at s at → unit_at s at ≡ next_unit s from
-    → ◌≡◌ {A = Seen} (record { found = f; clear = stop - (at + 3) }) (next_seen s from)
+pub seen-there : (s : List ℕ) (from at stop : ℕ) → stop ≡ at + 3 + upto 0 3 (drop (at + 3) s) → {u : Span} → u ≡ unit_at s at → Some (unit_at s at) ≡ next_unit s from
+    → ◌≡◌ {A = Seen} (record { found = Some u; clear = stop - (at + 3) }) (next_seen s from)
 unfolding unit_at
-seen-there s from at stop e {f} p q =
-    let c : stop - (at + 3) ≡ clear_in s f = (let k : stop - (at + 3) ≡ upto 0 3 (drop (at + 3) s) = omega arith in k ∙ ap (clear_in s) (sym p)) in
-    (λ i. record { found = f; clear = c i }) ∙ seen_as s from (p ∙ q)
+seen-there s from at stop e {u} p q =
+    let c : stop - (at + 3) ≡ clear_in s (Some u) = (let k : stop - (at + 3) ≡ upto 0 3 (drop (at + 3) s) = omega arith in k ∙ ap (λ (f : Span). upto 0 3 (drop f.place s)) (sym p)) in
+    (λ i. record { found = Some u; clear = c i }) ∙ seen_as s from (ap Some p ∙ q)
 
 -- what is taken out of it
 module _ (s : List ℕ) (from : ℕ) {r : Seen} (is : r ≡ next_seen s from) where
-  pub found_in : {f : Found} → r.found ≡ f → next_unit s from ≡ f
+  pub found_in : {f : Option Span} → r.found ≡ f → next_unit s from ≡ f
   found_in e = sym (λ i. (is i).found) ∙ e
 
-  pub clear_in_lem : {p l n : ℕ} → next_unit s from ≡ Found.At p l n → r.clear ≡ upto 0 3 (drop p s)
+  pub clear_in_lem : {u : Span} → next_unit s from ≡ Some u → r.clear ≡ upto 0 3 (drop u.place s)
   clear_in_lem e = (λ i. (is i).clear) ∙ ap (clear_in s) e
 
 -- ---- the unit

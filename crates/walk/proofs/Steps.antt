@@ -16,7 +16,8 @@ use Rattle.unit.specs.Answer.{only}
 use Rattle.unit.specs.Unit.{unit_read}
 use Rattle.unit.specs.Into.{short_answer, Lent, words_after}
 use Rattle.front.specs.Front.{unit_front}
-use Rattle.walk.specs.declared.search.Found.{Found}
+use Rattle.std.specs.Prelude.{Option, Some, None}
+use Rattle.walk.specs.declared.search.Span.{Span}
 use Rattle.walk.specs.declared.walk.Step.{Step}
 use Rattle.walk.specs.Walk.{next_unit}
 use Rattle.walk.specs.Walked.{table_after, step_to, next_step, nothing, Reading, stepped, walked}
@@ -29,28 +30,32 @@ module _ (s : List ℕ) (from : ℕ) where
   unfolding next_step
   step-over h = rw (lt-leb (length s) limit h)
 
-  pub step-found : length s ≤ limit → {f : Found} → next_unit s from ≡ f → step_to f ≡ next_step s from
+  pub step-found : length s ≤ limit → {f : Option Span} → next_unit s from ≡ f → step_to f ≡ next_step s from
   unfolding next_step
   step-found h e = rw (le-leb (length s) limit h, e)
 
   -- a step to a unit is the search's
-  pub found_at : {p l n : ℕ} → next_step s from ≡ Step.Unit p l n → next_unit s from ≡ Found.At p l n
+  pub found_at : {p l n : ℕ} → next_step s from ≡ Step.Unit p l n → next_unit s from ≡ Some (record { place = p; length = l; next = n })
   unfolding next_step
   found_at {p} {l} {n} = go (leb (length s) limit) (next_unit s from)
     where
-      go : (b : Bool) (f : Found) → pick b (step_to f) (Step.Refused (refusal too_large (pos 0))) ≡ Step.Unit p l n → f ≡ Found.At p l n
-      go true (Found.At p' l' n') e = cc
-      go true Found.End e = let z : ◌≡◌ {A = ℕ} 0 1 = cc in absurd (omega arith)
+      go : (b : Bool) (f : Option Span) → pick b (step_to f) (Step.Refused (refusal too_large (pos 0))) ≡ Step.Unit p l n → f ≡ Some (record { place = p; length = l; next = n })
+      go true (Some u) e =
+          let ep : u.place ≡ p = cc in
+          let el : u.length ≡ l = cc in
+          let en : u.next ≡ n = cc in
+          λ i. Some (record { place = ep i; length = el i; next = en i })
+      go true None e = let z : ◌≡◌ {A = ℕ} 0 1 = cc in absurd (omega arith)
       go false f e = let z : ◌≡◌ {A = ℕ} 0 1 = cc in absurd (omega arith)
 
   -- so is one to the end
-  pub found-end : next_step s from ≡ Step.End → next_unit s from ≡ Found.End
+  pub found-end : next_step s from ≡ Step.End → next_unit s from ≡ None
   unfolding next_step
   found-end = go (leb (length s) limit) (next_unit s from)
     where
-      go : (b : Bool) (f : Found) → pick b (step_to f) (Step.Refused (refusal too_large (pos 0))) ≡ Step.End → f ≡ Found.End
-      go true (Found.At p l n) e = let z : ◌≡◌ {A = ℕ} 0 1 = cc in absurd (omega arith)
-      go true Found.End e = refl
+      go : (b : Bool) (f : Option Span) → pick b (step_to f) (Step.Refused (refusal too_large (pos 0))) ≡ Step.End → f ≡ None
+      go true (Some u) e = let z : ◌≡◌ {A = ℕ} 0 1 = cc in absurd (omega arith)
+      go true None e = refl
       go false f e = let z : ◌≡◌ {A = ℕ} 0 1 = cc in absurd (omega arith)
 
   -- and what is refused is 27
@@ -58,10 +63,10 @@ module _ (s : List ℕ) (from : ℕ) where
   unfolding next_step
   refused_over {r} = go (leb (length s) limit) refl (next_unit s from)
     where
-      go : (b : Bool) → leb (length s) limit ≡ b → (f : Found) → pick b (step_to f) (Step.Refused (refusal too_large (pos 0))) ≡ Step.Refused r
+      go : (b : Bool) → leb (length s) limit ≡ b → (f : Option Span) → pick b (step_to f) (Step.Refused (refusal too_large (pos 0))) ≡ Step.Refused r
           → (limit < length s) × (r ≡ refusal too_large (pos 0))
-      go true h (Found.At p l n) e = let z : ◌≡◌ {A = ℕ} 0 1 = cc in absurd (omega arith)
-      go true h Found.End e = let z : ◌≡◌ {A = ℕ} 0 1 = cc in absurd (omega arith)
+      go true h (Some u) e = let z : ◌≡◌ {A = ℕ} 0 1 = cc in absurd (omega arith)
+      go true h None e = let z : ◌≡◌ {A = ℕ} 0 1 = cc in absurd (omega arith)
       go false h f e = (leb-false (length s) limit h, cc)
 
 -- what is known where a step is not taken apart as a unit

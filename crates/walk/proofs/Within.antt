@@ -41,7 +41,7 @@ module _ (R : Reading) (next : List ℕ → ℕ → Step) (s : List ℕ) (steps 
       go (Step.Refused r) e ih m = absurd (Memᴰ.not-nil m)
 
 pub next-within : (s : List ℕ) (from p l n : ℕ) → next_step s from ≡ Step.Unit p l n → (p + l ≤ n) × (n ≤ length s)
-next-within s from p l n e = let w = went s from p l n (found_at s from e) in (w.inside, w.within)
+next-within s from p l n e = let w = went s from _ (found_at s from e) in (w.inside, w.within)
 
 -- for every table, recording and scratch
 pub reports-within : (s : List ℕ) (u : Report UnitRead) (t : Table) (scratch : List ℕ) → Memᴰ u (reports t scratch s) → Inside s u

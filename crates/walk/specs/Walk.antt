@@ -1,7 +1,7 @@
 -- Where a recording's units are (docs/RULES.md, 'Units and bodies'). A recording is the list of its bytes, and what stands from a place on is a list too: each definition goes along it and looks at nothing before it.
-use Rattle.std.specs.Prelude.{ℕ, zero, suc, ◌+◌, List, [], ◌∷◌, Bool, false, ◌&&◌, leb, ltb, eqb, length, drop}
+use Rattle.std.specs.Prelude.{ℕ, zero, suc, ◌+◌, List, [], ◌∷◌, Bool, false, ◌&&◌, leb, ltb, eqb, length, drop, Option, Some, None}
 use Rattle.bits.specs.Refusals.{pick}
-use Rattle.walk.specs.declared.search.Found.{Found}
+use Rattle.walk.specs.declared.search.Span.{Span}
 
 -- 00 00 and a byte from `least` to 1 stand here. With 1 that is the start code, 00 00 01; with 0 an end mark, 00 00 00 or 00 00 01
 abbrev pub hit : ℕ → List ℕ → Bool
@@ -29,13 +29,13 @@ unfoldable pub len_of : List ℕ → ℕ
 len_of b = pick (ltb (upto 0 b) (length b)) (upto 0 b) (kept b)
 
 -- the unit whose start code begins at `at`: its place, its length, and the place to go on from, which is its end mark or the recording's end
-unfoldable pub unit_at : List ℕ → ℕ → Found
-unit_at s at = Found.At (at + 3) (len_of (drop (at + 3) s)) (at + 3 + upto 0 (drop (at + 3) s))
+unfoldable pub unit_at : List ℕ → ℕ → Span
+unit_at s at = record { place = at + 3; length = len_of (drop (at + 3) s); next = at + 3 + upto 0 (drop (at + 3) s) }
 
 -- where the first start code from `from` on begins; at the end or later where there is none
 unfoldable pub first_from : List ℕ → ℕ → ℕ
 first_from s from = from + upto 1 (drop from s)
 
 -- the first unit whose start code begins at `from` or later
-unfoldable pub next_unit : List ℕ → ℕ → Found
-next_unit s from = pick (ltb (first_from s from) (length s)) (unit_at s (first_from s from)) Found.End
+unfoldable pub next_unit : List ℕ → ℕ → Option Span
+next_unit s from = pick (ltb (first_from s from) (length s)) (Some (unit_at s (first_from s from))) None

@@ -1,5 +1,5 @@
 -- One step of the walk (docs/RULES.md, 'The walk'): its answer, and scratch and table at exit.
-use Rattle.std.specs.Prelude.{ℕ, List, leb, pos, length, take, drop}
+use Rattle.std.specs.Prelude.{ℕ, List, leb, pos, length, take, drop, Option, Some, None}
 use Rattle.bits.specs.Refusals.{pick, refusal, too_large, limit}
 use Rattle.table.specs.declared.table.Table.{Table}
 use Rattle.table.specs.Tables.{put_sequence, put_picture}
@@ -7,7 +7,7 @@ use Rattle.unit.specs.declared.answer.UnitAnswer.{UnitAnswer}
 use Rattle.unit.specs.declared.answer.UnitRead.{UnitRead}
 use Rattle.unit.specs.Answer.{only}
 use Rattle.unit.specs.Unit.{UnitOut, unit_read}
-use Rattle.walk.specs.declared.search.Found.{Found}
+use Rattle.walk.specs.declared.search.Span.{Span}
 use Rattle.walk.specs.declared.walk.Step.{Step}
 use Rattle.walk.specs.Walk.{next_unit}
 
@@ -32,9 +32,9 @@ table_after t (UnitAnswer.Other id) = t
 table_after t (UnitAnswer.Refused r) = t
 
 -- what the search found, as a step
-abbrev pub step_to : Found → Step
-step_to (Found.At place size next) = Step.Unit place size next
-step_to Found.End = Step.End
+abbrev pub step_to : Option Span → Step
+step_to (Some u) = Step.Unit u.place u.length u.next
+step_to None = Step.End
 
 -- where the walk comes to: 27 first
 unfoldable pub next_step : List ℕ → ℕ → Step

@@ -6,15 +6,12 @@ ghost use Rattle.walk.specs.Seen.{next_seen};
 use bits::refusals::Refusal;
 use scan::scan::{hit_at, seek};
 
-// What a search finds: a unit's first byte, its length and the place to go on from; or no unit.
+// Where a unit is: its first byte, its length and the place to go on from.
 #[derive(Clone, Copy)]
-pub enum Found {
-    At {
-        place: usize,
-        length: usize,
-        next: usize,
-    },
-    End,
+pub struct Span {
+    pub place: usize,
+    pub length: usize,
+    pub next: usize,
 }
 
 // The first start code from `from` on, or the end. It most often begins at `from` or a byte later: only then are blocks searched.
@@ -51,31 +48,29 @@ fn trim(s: &[u8], from: usize) -> usize
     requires { from ≤ length s.now }
     ensures { result ≡ kept (drop from s.now) }
 {
-    let mut e = s.len();
-    while from < e {
-        if s[e - 1] != 0 {
-            return e - from;
+    for i in (from..s.len()).rev() {
+        if s[i] != 0 {
+            return i + 1 - from;
         }
-        e -= 1;
     }
     0
 }
 
 // The unit whose start code begins at `at`, where its end mark begins at `next`, or the recording ends there.
-fn unit_to(recording: &[u8], at: usize, next: usize) -> Found
+fn unit_to(recording: &[u8], at: usize, next: usize) -> Span
     requires { (at + 3 ≤ length recording.now) × (next ≡ at + 3 + upto 0 (drop (at + 3) recording.now)) }
     ensures { result ≡ unit_at recording.now at }
 {
     let place = at + 3;
     if next < recording.len() {
-        return Found::At {
+        return Span {
             place,
             length: next - place,
             next,
         };
     }
     let length = trim(recording, place);
-    Found::At {
+    Span {
         place,
         length,
         next,
@@ -83,26 +78,26 @@ fn unit_to(recording: &[u8], at: usize, next: usize) -> Found
 }
 
 // The first unit whose start code begins at `from` or later.
-pub fn next_unit(recording: &[u8], from: usize) -> Found
+pub fn next_unit(recording: &[u8], from: usize) -> Option<Span>
     ensures { result ≡ next_unit recording.now from }
 {
     let n = recording.len();
     if n <= from {
-        return Found::End;
+        return None;
     }
     let at = seek_start(recording, from);
     if n <= at {
-        return Found::End;
+        return None;
     }
     let place = at + 3;
     let next = seek(recording, place, 0, 1);
-    unit_to(recording, at, next)
+    Some(unit_to(recording, at, next))
 }
 
 // What is found, and how many of the unit's first bytes begin neither an end mark nor 00 00 02 or 00 00 03.
 #[derive(Clone, Copy)]
 pub struct Seen {
-    pub found: Found,
+    pub found: Option<Span>,
     pub clear: usize,
 }
 
@@ -113,14 +108,14 @@ pub(crate) fn next_seen(recording: &[u8], from: usize) -> Seen
     let n = recording.len();
     if n <= from {
         return Seen {
-            found: Found::End,
+            found: None,
             clear: 0,
         };
     }
     let at = seek_start(recording, from);
     if n <= at {
         return Seen {
-            found: Found::End,
+            found: None,
             clear: 0,
         };
     }
@@ -128,7 +123,7 @@ pub(crate) fn next_seen(recording: &[u8], from: usize) -> Seen
     let stop = seek(recording, place, 0, 3);
     let next = seek_mark(recording, stop);
     Seen {
-        found: unit_to(recording, at, next),
+        found: Some(unit_to(recording, at, next)),
         clear: stop - place,
     }
 }

@@ -6,12 +6,13 @@ ghost use Rattle.unit.specs.Into.{lent_in, SameLent};
 ghost use Rattle.walk.specs.Walked.{next_step, walked};
 ghost use Rattle.walk.specs.WalkedInto.{WalkedInto};
 
-use crate::search::{Found, next_seen, next_unit};
+use crate::search::{next_seen, next_unit};
 use crate::turn::body_in_turn;
 use bits::refusals::{LIMIT, Refusal, TOO_LARGE, refuse};
 use unit::into::{AllWords, ShortAnswer};
 
 // What a step came to: a unit's place, its length and the place to go on from; the end; or a refusal (27; in a recording framed by length also 29).
+// Three outcomes, so neither an `Option` nor a `Result`.
 #[derive(Clone, Copy)]
 pub enum Step {
     Unit(usize, usize, usize),
@@ -34,12 +35,8 @@ pub fn next_step(recording: &[u8], from: usize) -> Step
         return Step::Refused(refuse(TOO_LARGE, 0));
     }
     match next_unit(recording, from) {
-        Found::At {
-            place,
-            length,
-            next,
-        } => Step::Unit(place, length, next),
-        Found::End => Step::End,
+        Some(u) => Step::Unit(u.place, u.length, u.next),
+        None => Step::End,
     }
 }
 
@@ -65,28 +62,23 @@ pub fn walk_into(
     }
     let seen = next_seen(recording, from);
     let found = seen.found;
-    let Found::At {
-        place,
-        length,
-        next,
-    } = found
-    else {
+    let Some(u) = found else {
         return WalkedShort {
             step: Step::End,
             answer: ShortAnswer::Other(0),
         };
     };
-    let end = place + length;
+    let end = u.place + u.length;
     let answer = body_in_turn(
         sequences,
         pictures,
-        &recording[place..end],
+        &recording[u.place..end],
         seen.clear,
         scratch,
         w,
     );
     WalkedShort {
-        step: Step::Unit(place, length, next),
+        step: Step::Unit(u.place, u.length, u.next),
         answer,
     }
 }

@@ -1,4 +1,6 @@
 // How many entries a list has: one for each active reference.
+#![tactic(auto, unfolding(crate::specs::Counts::at_most32))]
+
 ghost use Rattle.std.specs.Prelude.{◌≡◌};
 ghost use Rattle.weights.specs.Counts.{at_most32};
 

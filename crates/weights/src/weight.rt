@@ -1,4 +1,6 @@
 // An entry of pred_weight_table( ), in two halves: luma, and chroma.
+#![tactic(auto, unfolding(crate::specs::Halves::luma_half, crate::specs::Halves::chroma_half, fmt::specs::Fmt::seq, fmt::specs::Fmt::shaped, syntax::specs::SliceHeader::weight, fmt::specs::Leaves::flag))]
+
 ghost use Rattle.std.specs.Prelude.{◌≡◌};
 ghost use Rattle.bits.specs.Bits.{bits_of};
 ghost use Rattle.syntax.specs.SliceHeader.{weight};

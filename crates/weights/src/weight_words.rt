@@ -17,7 +17,8 @@ use syntax::context::Context;
 use syntax::marks::Marked;
 use syntax::record::Weight;
 
-// The table without its entries: l0 and l1 are their counts. An entry is eight words, in the syntax's order, with flags as 0 and 1.
+// The table without its entries: l0 and l1 are their counts. An entry is eight words, in the syntax's order, with flags as 0 and 1. A mark and no
+// Option: it is laid down as a word.
 #[repr(C)]
 #[derive(Clone, Copy)]
 pub struct WeightsShort {

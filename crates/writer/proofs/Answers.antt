@@ -24,7 +24,7 @@ use Rattle.writer.specs.Given.{kind_given}
 use Rattle.writer.specs.Write.{sets_for, HeaderOut, untouched, bits_out, after_sets, after_kind, write_where, write_header}
 use Rattle.writer.proofs.Passed.{Found}
 use Rattle.std.specs.Prelude.{Result, Ok, Err}
-use Rattle.writer.specs.declared.sets.Sets.{Sets}
+use Rattle.writer.specs.declared.sets.NamedSets.{NamedSets}
 
 -- an answer that is a refusal is none of bits
 pub no_bits_lem : {P : Type 0} {r : Refusal} {n : ℕ} → Err r ≡ Ok n → P
@@ -104,7 +104,7 @@ module _ (t : Table) (b : ℕ) (x : ExtensionGiven) (h : SliceHeader) (out : Lis
         no_bits_lem (ap (λ (o : HeaderOut). o.answer) e)))
         (λ g. no_bits_lem (ap (λ (o : HeaderOut). o.answer) (sym (out_none t k h out g) ∙ w)))
 
-    of-sets : (k : UnitKind) → kind_given b x ≡ Ok k → (f : Result Sets Refusal) → after_sets true t k h out f ≡ Out → Wrote t b x h out n left
+    of-sets : (k : UnitKind) → kind_given b x ≡ Ok k → (f : Result NamedSets Refusal) → after_sets true t k h out f ≡ Out → Wrote t b x h out n left
     of-sets k q (Ok s) w = of-bits k q w
     of-sets k q (Err r) w = no_bits_lem (ap (λ (o : HeaderOut). o.answer) w)
 

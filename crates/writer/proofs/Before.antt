@@ -15,10 +15,10 @@ use Rattle.writer.specs.Write.{out_of, sets_for, bits_out, after_sets, after_kin
 use Rattle.writer.specs.Before.{sets_before, kind_before, write_before}
 use Rattle.std.specs.Prelude.{Result, Ok, Err}
 use Rattle.bits.specs.declared.refusals.Refusal.{Refusal}
-use Rattle.writer.specs.declared.sets.Sets.{Sets}
+use Rattle.writer.specs.declared.sets.NamedSets.{NamedSets}
 
 module _ (t : Table) (v : TrueWidths t) where
-  sets_same : (n : UnitKind) (h : SliceHeader) (out : List ℕ) (f : Result Sets Refusal) → after_sets true t n h out f ≡ sets_before t n h out f
+  sets_same : (n : UnitKind) (h : SliceHeader) (out : List ℕ) (f : Result NamedSets Refusal) → after_sets true t n h out f ≡ sets_before t n h out f
   unfolding bits_out
   sets_same n h out (Ok s) = λ i. out_of (written ((header-same t v n i).good h) ((header-same t v n i).bits h) out 0)
   sets_same n h out (Err r) = refl

@@ -33,7 +33,7 @@ use Rattle.writer.proofs.Units.{Starts, tells, first_of, extension_in, body_of, 
 use Rattle.writer.proofs.RoundTrip.{reads-back, rewrites-as, rewrites, refused-no-unit}
 use Rattle.std.specs.Prelude.{Result, Ok, Err}
 use Rattle.bits.specs.declared.refusals.Refusal.{Refusal}
-use Rattle.writer.specs.declared.sets.Sets.{Sets}
+use Rattle.writer.specs.declared.sets.NamedSets.{NamedSets}
 
 -- ---- words and the record that they hold
 
@@ -47,7 +47,7 @@ module _ (t : Table) (b : ℕ) (x : ExtensionGiven) (w : HeaderWords) (out : Lis
   unfolding write_words write_where bits_out written
   written-plain {n} {left} e = cases (plain w) (λ p. p) (λ p. of-kind (kind_given b x) (rw p at e))
     where
-      of-sets : (k : UnitKind) (f : Result Sets Refusal) → after_sets false t k (header_from w) out f ≡ record { answer = Ok n; left = left } → plain w ≡ true
+      of-sets : (k : UnitKind) (f : Result NamedSets Refusal) → after_sets false t k (header_from w) out f ≡ record { answer = Ok n; left = left } → plain w ≡ true
       of-sets k (Ok s) q = no_bits_lem (ap (λ (o : HeaderOut). o.answer) q)
       of-sets k (Err r) q = no_bits_lem (ap (λ (o : HeaderOut). o.answer) q)
 

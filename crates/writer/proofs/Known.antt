@@ -39,21 +39,21 @@ use Rattle.writer.proofs.Passed.{picture-is, sequence-id}
 use Rattle.writer.proofs.Room.{room-bits}
 use Rattle.writer.proofs.Copies.{copied-written}
 use Rattle.std.specs.Prelude.{Ok, Option, Some, None}
-use Rattle.writer.specs.declared.sets.Sets.{Sets}
+use Rattle.writer.specs.declared.sets.NamedSets.{NamedSets}
 
 -- ---- by the table
 
 -- the sets that were found
-record Are (t : Table) (id : ℕ) (y : Sets) : Type 0 where
+record Are (t : Table) (id : ℕ) (y : NamedSets) : Type 0 where
   low : leb id 255 ≡ true
   picture : picture_at t id ≡ found_picture y.picture y.cycle_width
   sequence : sequence_at t y.picture.seq_parameter_set_id ≡ Some y.sequence
 
 -- the context that they make for a unit's kind
-abbrev pub context : Sets → UnitKind → Context
+abbrev pub context : NamedSets → UnitKind → Context
 context y n = record { kind = n; picture = y.picture; sequence = y.sequence; cycle_width = y.cycle_width }
 
-module _ (t : Table) (id : ℕ) (y : Sets) where
+module _ (t : Table) (id : ℕ) (y : NamedSets) where
   with-sequence : leb id 255 ≡ true → (p : Picture) (w : ℕ) → picture_at t id ≡ found_picture p w → (f : Option Sequence) → sequence_at t p.seq_parameter_set_id ≡ f
       → with_sequence p w f ≡ Ok y → Are t id y
   with-sequence l p w k (Some s) g e =
@@ -90,10 +90,10 @@ module _ (t : Table) (id : ℕ) (y : Sets) where
     id-good = rw (sequence-id t id a.picture, a.sequence, a.picture, a.low)
 
 -- its counts of references are those of a set within the ranges
-pub known-few : (t : Table) (id : ℕ) (y : Sets) → sets_for t id ≡ Ok y → Few y.picture
+pub known-few : (t : Table) (id : ℕ) (y : NamedSets) → sets_for t id ≡ Ok y → Few y.picture
 known-few t id y e = subst Few (picture-is t id (sets-are t id y e).picture) (defaults-few t id)
 
-module _ (t : Table) (n : UnitKind) (w : HeaderWords) (out : List ℕ) (y : Sets) (e : sets_for t (header_from w).pic_parameter_set_id ≡ Ok y) where
+module _ (t : Table) (n : UnitKind) (w : HeaderWords) (out : List ℕ) (y : NamedSets) (e : sets_for t (header_from w).pic_parameter_set_id ≡ Ok y) where
   abbrev h : SliceHeader
   h = header_from w
 

@@ -8,7 +8,7 @@ use Rattle.fmt.specs.Fmt.{Fmt, test}
 use Rattle.fmt.proofs.Lawful.{both-1, T_true, not-T-false}
 use Rattle.table.specs.declared.sets.Picture.{Picture}
 use Rattle.table.specs.declared.sets.Sequence.{Sequence}
-use Rattle.writer.specs.declared.sets.Sets.{Sets}
+use Rattle.writer.specs.declared.sets.NamedSets.{NamedSets}
 use Rattle.table.specs.declared.table.Table.{Table}
 use Rattle.table.specs.Tables.{found_picture, picture_at, sequence_at}
 use Rattle.syntax.specs.declared.context.UnitKind.{UnitKind}
@@ -21,7 +21,7 @@ use Rattle.std.specs.Prelude.{Ok, Option, Some, None}
 
 -- the sets that an id names are in the table
 pub record Found (t : Table) (id : ℕ) : Type 0 where
-  pub sets : Sets
+  pub sets : NamedSets
   pub are : sets_for t id ≡ Ok sets
 
 in-test : {A : Type 0} (ok : A → Bool) (n : ℕ) (value : A → ℤ) (F : Fmt A) (a : A) → T ((test ok n value F).good a) → T (F.good a)

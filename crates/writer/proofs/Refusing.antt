@@ -36,7 +36,7 @@ use Rattle.writer.proofs.Units.{byte, Starts, plain, with-extension, plain-short
 use Rattle.writer.proofs.RoundTrip.{refused-no-unit, unread-refused}
 use Rattle.std.specs.Prelude.{Result, Ok, Err, Option, Some, None}
 use Rattle.table.specs.declared.sets.Sequence.{Sequence}
-use Rattle.writer.specs.declared.sets.Sets.{Sets}
+use Rattle.writer.specs.declared.sets.NamedSets.{NamedSets}
 
 abbrev pub among : List ℕ → ℕ → Bool
 among [] n = false
@@ -67,7 +67,7 @@ kind-fine b x = cases (eqb (forbidden_zero_bit_of b) 0) (λ i. rw i (typed-fine 
 
 -- ---- the checks on the sets: 8, 9, 10
 
-abbrev SetsFine : Result Sets Refusal → Type 0
+abbrev SetsFine : Result NamedSets Refusal → Type 0
 SetsFine (Ok s) = Unit {0}
 SetsFine (Err r) = T (among (8 ∷ 9 ∷ 10 ∷ []) r.number) × (r.has_bit ≡ false)
 
@@ -126,7 +126,7 @@ module _ (t : Table) (h : SliceHeader) (out : List ℕ) where
       (λ m. rw (out-short t k h out good (leb-false (length l) (length (bits_of out)) m)) (refl, (tt, refl))))
       (λ g. rw (out_none t k h out g) (refl, (tt, refl)))
 
-  by-sets : (k : UnitKind) (f : Result Sets Refusal) → SetsFine f → OutFine (after_sets true t k h out f)
+  by-sets : (k : UnitKind) (f : Result NamedSets Refusal) → SetsFine f → OutFine (after_sets true t k h out f)
   by-sets k (Ok s) g = bits-fine k
   by-sets k (Err r) g = (refl, (among-right (2 ∷ 3 ∷ 4 ∷ 13 ∷ []) (8 ∷ 9 ∷ 10 ∷ 25 ∷ 26 ∷ []) r.number (among-left (8 ∷ 9 ∷ 10 ∷ []) (25 ∷ 26 ∷ []) r.number g.0), g.1))
 
@@ -181,7 +181,7 @@ module _ (t : Table) (h : SliceHeader) (out : List ℕ) where
   bits-long true k = some-long k
   bits-long false k = none-long k
 
-  sets-long : (ok : Bool) (k : UnitKind) (f : Result Sets Refusal) → SetsFine f → Long (after_sets ok t k h out f).answer
+  sets-long : (ok : Bool) (k : UnitKind) (f : Result NamedSets Refusal) → SetsFine f → Long (after_sets ok t k h out f).answer
   sets-long ok k (Ok s) g = bits-long ok k
   sets-long ok k (Err r) g = λ e. not-26 r (8 ∷ 9 ∷ 10 ∷ []) g.0 e refl
 
@@ -252,7 +252,7 @@ module _ (t : Table) (b : ℕ) (x : ExtensionGiven) (h : SliceHeader) (out : Lis
       → (unit_read t (unit_of b x v) scratch).read.answer ≡ UnitAnswer.Slice e → (unit_read t (unit_of b x v) scratch).read.header ≡ h → ⊥
   none_reads w v scratch e a r = kind (kind_given b x) refl (kind-fine b x)
     where
-      sets : {k : UnitKind} → kind_given b x ≡ Ok k → (f : Result Sets Refusal) → sets_for t h.pic_parameter_set_id ≡ f → SetsFine f → ⊥
+      sets : {k : UnitKind} → kind_given b x ≡ Ok k → (f : Result NamedSets Refusal) → sets_for t h.pic_parameter_set_id ≡ f → SetsFine f → ⊥
       sets q (Ok s) g i = refused-no-unit t b x h out q (record { sets = s; are = g }) w (unit_of b x v) v scratch e (told-starts b x q v) a r
       sets q (Err d) g i = other (sym (by-the-sets q g) ∙ w) (8 ∷ 9 ∷ 10 ∷ []) i.0 refl
 
@@ -264,7 +264,7 @@ module _ (t : Table) (b : ℕ) (x : ExtensionGiven) (h : SliceHeader) (out : Lis
   pub unread-turned : ((k : UnitKind) (s : Bits) (e : ℕ) → read_header t k s ≡ got h e → ⊥) → Turned (write_header t b x h out).answer
   unread-turned n = kind (kind_given b x) refl (kind-fine b x)
     where
-      sets : {k : UnitKind} → kind_given b x ≡ Ok k → (f : Result Sets Refusal) → sets_for t h.pic_parameter_set_id ≡ f → SetsFine f → Turned (write_header t b x h out).answer
+      sets : {k : UnitKind} → kind_given b x ≡ Ok k → (f : Result NamedSets Refusal) → sets_for t h.pic_parameter_set_id ≡ f → SetsFine f → Turned (write_header t b x h out).answer
       sets {k} q (Ok s) g i =
           let f : Found t h.pic_parameter_set_id = record { sets = s; are = g } in
           record { why = refusal no_bits (pos 0); is = ap (λ (o : HeaderOut). o.answer) (unread-refused t b x h out q f (n k)); number = tt }

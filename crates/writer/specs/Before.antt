@@ -10,9 +10,9 @@ use Rattle.writer.specs.Given.{kind_given}
 use Rattle.writer.specs.Write.{HeaderOut, untouched, out_of, sets_for}
 use Rattle.std.specs.Prelude.{Result, Ok, Err}
 use Rattle.bits.specs.declared.refusals.Refusal.{Refusal}
-use Rattle.writer.specs.declared.sets.Sets.{Sets}
+use Rattle.writer.specs.declared.sets.NamedSets.{NamedSets}
 
-abbrev pub sets_before : Table → UnitKind → SliceHeader → List ℕ → Result Sets Refusal → HeaderOut
+abbrev pub sets_before : Table → UnitKind → SliceHeader → List ℕ → Result NamedSets Refusal → HeaderOut
 sets_before t n h out (Ok s) = out_of (written ((header_before t n).good h) ((header_before t n).bits h) out 0)
 sets_before t n h out (Err r) = untouched r out
 

@@ -16,19 +16,19 @@ use Rattle.writer.specs.Given.{kind_given}
 use Rattle.std.specs.Prelude.{Result, Ok, Err, Option, Some, None}
 use Rattle.bits.specs.declared.read.Cursor.{Cursor}
 use Rattle.table.specs.declared.sets.Sequence.{Sequence}
-use Rattle.writer.specs.declared.sets.Sets.{Sets}
+use Rattle.writer.specs.declared.sets.NamedSets.{NamedSets}
 
 -- ---- 8, 9 and 10, with the values that reading has
 
-abbrev pub with_sequence : Picture → ℕ → Option Sequence → Result Sets Refusal
+abbrev pub with_sequence : Picture → ℕ → Option Sequence → Result NamedSets Refusal
 with_sequence p w (Some s) = Ok (record { picture = p; cycle_width = w; sequence = s })
 with_sequence p w None = Err (refusal 10 (pos p.seq_parameter_set_id))
 
-abbrev pub with_picture : Table → ℕ → Option (Picture × ℕ) → Result Sets Refusal
+abbrev pub with_picture : Table → ℕ → Option (Picture × ℕ) → Result NamedSets Refusal
 with_picture t id (found_picture p w) = with_sequence p w (sequence_at t p.seq_parameter_set_id)
 with_picture t id None = Err (refusal 9 (pos id))
 
-unfoldable pub sets_for : Table → ℕ → Result Sets Refusal
+unfoldable pub sets_for : Table → ℕ → Result NamedSets Refusal
 sets_for t id = pick (leb id 255) (with_picture t id (picture_at t id)) (Err (refusal 8 (pos id)))
 
 -- ---- the header
@@ -58,7 +58,7 @@ out_of w = record { answer = wrote_of w.answer; left = w.left }
 unfoldable pub bits_out : Bool → Table → UnitKind → SliceHeader → List ℕ → HeaderOut
 bits_out ok t n h out = out_of (written (ok && (header t n).good h) ((header t n).bits h) out 0)
 
-abbrev pub after_sets : Bool → Table → UnitKind → SliceHeader → List ℕ → Result Sets Refusal → HeaderOut
+abbrev pub after_sets : Bool → Table → UnitKind → SliceHeader → List ℕ → Result NamedSets Refusal → HeaderOut
 after_sets ok t n h out (Ok s) = bits_out ok t n h out
 after_sets ok t n h out (Err r) = untouched r out
 

@@ -9,7 +9,8 @@ use nal::extension::{NalHeaderExtension, NalHeaderMvcExtension};
 use nal::header::NalHeader;
 use syntax::context::UnitKind;
 
-// The three extension bytes; where they are not there, they are unused. Types 1 and 5 make no use of them.
+// The three extension bytes; where they are not there, they are unused. Types 1 and 5 make no use of them. A mark and no
+// Option, since C hands it over.
 #[repr(C)]
 #[derive(Clone, Copy)]
 pub struct ExtensionGiven {

@@ -1,15 +1,16 @@
 // pred_weight_table( ): entries of luma and chroma weights, one for each active reference.
-ghost use Rattle.std.specs.Prelude.{◌≡◌, ◌*◌, ◌≤◌, ◌<◌, drop};
+ghost use Rattle.std.specs.Prelude.{◌≤◌};
 ghost use Rattle.syntax.specs.SliceHeader.{weight, weight_list, pred_weight_table};
 ghost use Rattle.weights.specs.Halves.{chroma_half};
 ghost use Rattle.record.specs.Fields.{number_in};
-ghost use Rattle.record.specs.Entries.{weight_from, weights_from};
+ghost use Rattle.record.specs.Entries.{weights_from};
 ghost use Rattle.record.specs.Record.{weight_table_from};
 ghost use Rattle.writer.specs.Places.{PutTo};
 
 use crate::marks::{number_of, put_flag, put_given_flag, put_given_signed, put_number_if};
 use bits::read::Cursor;
 use fields::conditions::{B, both, has_chroma, is_type, is_weighted};
+use record::entries::weight_at;
 use syntax::context::Context;
 use syntax::record::Weight;
 use weights::weights::count_if;
@@ -35,24 +36,6 @@ pub(crate) fn put_weight(d: &mut [u8], c: Cursor, chroma: bool, w: Weight) -> Op
     let c2 = put_given_signed(d, c1, f, w.luma_weight)?;
     let c3 = put_given_signed(d, c2, f, w.luma_offset)?;
     put_chroma_half(d, c3, chroma, w)
-}
-
-// The entry at i: eight words in the syntax's order.
-fn weight_at(words: &[i32; 256], i: u32) -> Weight
-    requires { i < 32 }
-    ensures { result ≡ weight_from (drop (8 * i) words.now) }
-{
-    let k = 8 * (i as usize);
-    Weight {
-        luma_weight_flag: words[k] != 0,
-        luma_weight: words[k + 1],
-        luma_offset: words[k + 2],
-        chroma_weight_flag: words[k + 3] != 0,
-        cb_weight: words[k + 4],
-        cb_offset: words[k + 5],
-        cr_weight: words[k + 6],
-        cr_offset: words[k + 7],
-    }
 }
 
 // A list of n entries, in the first `count` entries of its words.

@@ -1,6 +1,6 @@
 // The header written into a lent buffer.
 ghost use Rattle.std.specs.Prelude.{true, ◌≡◌, ◌*◌, ◌≤◌, length};
-ghost use Rattle.header.specs.Lead.{table_of};
+ghost use Rattle.header.specs.Lead.{table_in};
 ghost use Rattle.record.specs.Record.{plain_numbers, header_from};
 ghost use Rattle.writer.specs.Write.{held_words, write_words};
 ghost use Rattle.writer.specs.Stages.{fields_out, known_out, copied};
@@ -13,6 +13,7 @@ use bits::copy::copy_in;
 use bits::refusals::{BUFFER_TOO_SHORT, NO_BITS, Refusal, refuse};
 use fields::conditions::both;
 use syntax::context::Context;
+use table::table::Sets;
 
 // The bytes of the first n bits of d, out to the front of the buffer, if there is room for them.
 fn copy_out(d: &[u8], n: usize, out: &mut [u8]) -> Result<usize, Refusal>
@@ -98,9 +99,8 @@ fn write_known(
 
 // The header that lent words hold, written by the sets in a table's two arrays, for the unit that the first byte and the extension tell of. A refusal leaves the
 // buffer as it was. Words behind a list's count are not looked at.
-pub fn write_words_in<'a>(
-    sequences: &'a [u32; 224],
-    pictures: &'a [u32; 2304],
+pub fn write_words_in(
+    sets: Sets<'_>,
     first: u8,
     extension: ExtensionGiven,
     numbers: &[u32; 57],
@@ -112,15 +112,15 @@ pub fn write_words_in<'a>(
     w1: &[i32; 256],
     out: &mut [u8],
 ) -> Result<usize, Refusal>
-    ensures { (result ≡ (write_words (table_of sequences.now pictures.now) first extension (held_words numbers.now signed.now l0.now l1.now marking.now w0.now w1.now) out.old).answer) × (out.new ≡ (write_words (table_of sequences.now pictures.now) first extension (held_words numbers.now signed.now l0.now l1.now marking.now w0.now w1.now) out.old).left) }
+    ensures { (result ≡ (write_words (table_in sets.entry) first extension (held_words numbers.now signed.now l0.now l1.now marking.now w0.now w1.now) out.old).answer) × (out.new ≡ (write_words (table_in sets.entry) first extension (held_words numbers.now signed.now l0.now l1.now marking.now w0.now w1.now) out.old).left) }
 {
     let kind = kind_given(first, extension)?;
-    let sets = sets_for(sequences, pictures, numbers[2])?;
+    let named = sets_for(sets, numbers[2])?;
     let x = Context {
         kind,
-        picture: sets.picture,
-        sequence: sets.sequence,
-        cycle_width: sets.cycle_width,
+        picture: named.picture,
+        sequence: named.sequence,
+        cycle_width: named.cycle_width,
     };
     write_known(x, numbers, signed, l0, l1, marking, w0, w1, out)
 }

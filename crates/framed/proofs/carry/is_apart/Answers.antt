@@ -11,7 +11,7 @@ use Rattle.framed.proofs.carry.is_apart.Goals as goal
 use Rattle.framed.proofs.carry.is_apart.Goals.{then-x-m, else-x-m}
 
 pub loop-k-init : goal.loop-k-init
-loop-k-init c = let a = c.args in (omega arith, λ h. clear_none 0 0 a.unit.now a.from)
+loop-k-init c = let a = c.args in λ h. clear_none 0 0 a.unit.now a.from
 
 pub loop-k-preserved : goal.loop-k-preserved
 loop-k-preserved c =
@@ -22,9 +22,9 @@ loop-k-preserved c =
     let w : ((p : x < c.loop-k.m) × (c.if-x-m.m ≡ x)) ⊎ ((q : c.loop-k.m ≤ x) × (c.if-x-m.m ≡ c.loop-k.m)) =
     elim c.if-x-m.branch [ then-x-m v ↦ inl (v.if-x-m.true, v.m-is) | else-x-m v ↦ inr (v.if-x-m.false, v.m-is) ] in
     let l = lower_of w (λ h. h) (λ h. h) in
-    (omega arith, clear_step 0 0 s a.from k c.loop-k.m x c.if-x-m.m c.loop-k.invariant.1 both_zero l.0 l.1)
+    clear_step 0 0 s a.from k c.loop-k.m x c.if-x-m.m c.loop-k.invariant both_zero l.0 l.1
 
 pub returns : goal.returns
 returns c = λ e.
     let q : c.loop-k.k ≡ c.args.count = omega arith in
-    rw q at (c.loop-k.invariant.1 (ltb-true 0 c.loop-k.m e))
+    rw q at (c.loop-k.invariant (ltb-true 0 c.loop-k.m e))

@@ -1,9 +1,6 @@
-use Prim.Native.Nat.{◌+◌, ◌-◌, ◌<◌, ◌≤◌}
+use Prim.Native.Nat.{◌+◌, ◌<◌}
 use Rattle.scan.specs.Clear.{Clear}
 use Rattle.framed.proofs.carry.is_apart.Given as goal
 
 abbrev pub invariant-loop-k : goal.invariant-loop-k
-invariant-loop-k l = (l.k ≤ l.count) × (0 < l.m → Clear 0 0 l.unit l.from (l.from + l.k))
-
-abbrev pub decreases-loop-k : goal.decreases-loop-k
-decreases-loop-k l = l.count - l.k
+invariant-loop-k l = 0 < l.m → Clear 0 0 l.unit l.from (l.from + l.k)

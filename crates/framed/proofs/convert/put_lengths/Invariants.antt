@@ -5,8 +5,8 @@ use Rattle.framed.specs.Convert.{length_bytes, joined, bytes_of}
 use Rattle.framed.proofs.Fills.{Filled}
 use Rattle.framed.proofs.convert.put_lengths.Given as goal
 
-abbrev pub invariant-loop-place : goal.invariant-loop-place
-invariant-loop-place l = (l.i ≤ length l.recording) × Filled (joined length_bytes (bytes_of (units l.recording))) l.initial.out l.out l.o (joined length_bytes (bytes_of (units_at l.i (drop l.i l.recording))))
+abbrev pub invariant-loop-u : goal.invariant-loop-u
+invariant-loop-u l = (l.i ≤ length l.recording) × Filled (joined length_bytes (bytes_of (units l.recording))) l.initial.out l.out l.o (joined length_bytes (bytes_of (units_at l.i (drop l.i l.recording))))
 
-abbrev pub decreases-loop-place : goal.decreases-loop-place
-decreases-loop-place l = length l.recording - l.i
+abbrev pub decreases-loop-u : goal.decreases-loop-u
+decreases-loop-u l = length l.recording - l.i

@@ -1,5 +1,5 @@
 use Prim.Native.Nat.{ℕ}
-use mathlib.Core.Path.{refl, sym, ap, ◌∙◌}
+use mathlib.Core.Path.{sym, ap, ◌∙◌}
 use native.Mathlib.Omega.{arith}
 use native.Mathlib.Numerals.{add-one}
 use lib.ListN.{drop}
@@ -8,9 +8,6 @@ use Rattle.syntax.specs.SliceHeader.{any_set}
 use Rattle.cut.proofs.AnySet.{any_here, any-later, any_none}
 use borrow.Author.Rules.{rules}
 use Rattle.header.proofs.follows.any_from.Goals as goal
-
-pub loop-i-init : goal.loop-i-init
-loop-i-init c = refl
 
 pub returns-then-s-i-ne0 : goal.returns-then-s-i-ne0
 returns-then-s-i-ne0 c = sym (c.loop-i.invariant ∙ any_here _ c.loop-i.i (search rules) (omega (arith, c.type_inv.s c.loop-i.i)) c.if-s-i-ne0.true)

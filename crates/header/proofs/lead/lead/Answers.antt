@@ -6,7 +6,7 @@ use mir.Syntax.{w64}
 use Rattle.fmt.specs.Fmt.{seq}
 use Rattle.fmt.specs.Leaves.{ue}
 use Rattle.syntax.specs.SliceHeader.{lead, slice_type}
-use Rattle.header.specs.Lead.{table_of}
+use Rattle.header.specs.Lead.{table_in}
 use Rattle.header.proofs.Sets.{id-refused, no-picture, no-sequence, sets-there, picture-is, width_is, sequence-is}
 use Rattle.header.proofs.lead.lead.Goals as goal
 use Rattle.bits.specs.Answers.{as_read}
@@ -24,7 +24,7 @@ returns-in_default-a2 c =
 pub returns-in_default-a3 : goal.returns-in_default-a3
 unfolding lead seq ue slice_type
 returns-in_default-a3 c =
-    let x = table_of c.args.sequences.now c.args.pictures.now in
+    let x = table_in c.args.sets in
     let h = sym c.tested-a3.ensures ∙ ap as_read c.in_default-a3.is in
     rw (c.why-in_default-a3.ensures, ← c.ue-a1.ensures, c.in-Ok.is, ← c.tested-a2.ensures, c.in-Ok-a2.is, id-refused x _ _ h, c.in_default-a3.is)
 
@@ -32,7 +32,7 @@ pub returns-in_default-a4 : goal.returns-in_default-a4
 unfolding lead seq ue slice_type
 returns-in_default-a4 c =
     let n : c.in-Ok-a3.id < 2 ^ 63 = omega arith in
-    let x = table_of c.args.sequences.now c.args.pictures.now in
+    let x = table_in c.args.sets in
     let h = sym c.tested-a3.ensures ∙ ap as_read c.in-Ok-a3.is in
     let k = sym c.picture_in-a4.ensures ∙ c.in_default-a4.is in
     rw (rw (to_z_pos w64 n) at c.refuse_at.ensures, ← c.ue-a1.ensures, c.in-Ok.is, ← c.tested-a2.ensures, c.in-Ok-a2.is, no-picture x _ _ h k)
@@ -41,7 +41,7 @@ pub returns-in_default-a5 : goal.returns-in_default-a5
 unfolding lead seq ue slice_type
 returns-in_default-a5 c =
     let n : c.in-Some.picture.seq_parameter_set_id < 2 ^ 63 = omega arith in
-    let x = table_of c.args.sequences.now c.args.pictures.now in
+    let x = table_in c.args.sets in
     let h = sym c.tested-a3.ensures ∙ ap as_read c.in-Ok-a3.is in
     let k = sym c.picture_in-a4.ensures ∙ c.in-Some.is in
     let g = sym c.sequence_in-a5.ensures ∙ c.in_default-a5.is in
@@ -50,7 +50,7 @@ returns-in_default-a5 c =
 pub returns : goal.returns
 unfolding lead seq ue slice_type
 returns c =
-    let x = table_of c.args.sequences.now c.args.pictures.now in
+    let x = table_in c.args.sets in
     let h = sym c.tested-a3.ensures ∙ ap as_read c.in-Ok-a3.is in
     let k = sym c.picture_in-a4.ensures ∙ c.in-Some.is in
     let g = sym c.sequence_in-a5.ensures ∙ c.in-Some-a5.is in

@@ -7,7 +7,7 @@ use Rattle.record.proofs.Taken.{none-held, one-held, all_held}
 use Rattle.record.proofs.entries.weights_of.Goals as goal
 
 pub loop-i-init : goal.loop-i-init
-loop-i-init c = let h : c.at_most_32-used.result ≤ 32 = rw c.at_most_32-used.ensures (at-most-32 c.args.count) in (h, rw c.no_entries-entries.ensures (none-held c.args.words.now))
+loop-i-init c = let h : c.at_most_32-used.result ≤ 32 = rw c.at_most_32-used.ensures (at-most-32 c.args.count) in (h, rw c.no_entry-entries.ensures (none-held c.args.words.now))
 
 pub loop-i-preserved : goal.loop-i-preserved
 loop-i-preserved c = (c.loop-i.invariant.0, rw c.weight_at.ensures (one-held _ c.loop-i.invariant.1 (search rules)))

@@ -1,7 +1,7 @@
 use Rattle.header.specs.Short.{words_in}
 use mathlib.Core.Path.{sym, ◌∙◌}
 use lib.Seq.{length-take-le}
-use Rattle.header.specs.Lead.{table_of}
+use Rattle.header.specs.Lead.{table_in}
 use Rattle.unit.specs.Unit.{slice_bits}
 use Rattle.unit.proofs.Opened.{written, opened, closed}
 use Rattle.unit.proofs.Held.{slice_taken, none-taken}
@@ -18,10 +18,10 @@ returns-in-Ok-clause-taken c =
     let a = c.args in
     let u = c.unescape_known.ensures in
     let h = c.read_header_into.ensures in
-    slice_taken _ _ _ (opened _ _ _ _ _ c.requires u.scratch_after (sym c.in-Ok.is ∙ u.value) (slice_bits (table_of a.sequences.now a.pictures.now) a.kind)) (words_in a.w.now) h.value h.words c.slice_short.ensures
+    slice_taken _ _ _ (opened _ _ _ _ _ c.requires u.scratch_after (sym c.in-Ok.is ∙ u.value) (slice_bits (table_in a.sets) a.kind)) (words_in a.w.now) h.value h.words c.slice_short.ensures
 
 pub returns-in-Err-clause-taken : goal.returns-in-Err-clause-taken
 returns-in-Err-clause-taken c =
     let a = c.args in
     let u = c.unescape_known.ensures in
-    λ b. none-taken _ (closed _ _ _ _ _ c.requires u.scratch_after (sym c.in-Err.is ∙ u.value) (slice_bits (table_of a.sequences.now a.pictures.now) a.kind)) _ _
+    λ b. none-taken _ (closed _ _ _ _ _ c.requires u.scratch_after (sym c.in-Err.is ∙ u.value) (slice_bits (table_in a.sets) a.kind)) _ _

@@ -1,4 +1,4 @@
-use Rattle.header.specs.Lead.{table_of}
+use Rattle.header.specs.Lead.{table_in}
 use Rattle.unit.proofs.Whole.{body-whole}
 use Rattle.unit.proofs.unit.read_body_in.Goals as goal
 
@@ -10,6 +10,6 @@ returns c =
     let g = c.read_body_into-a.ensures.read in
     let a = c.args in (
       rw (c.long_answer.ensures, c.header_of.ensures, c.prefix_of.ensures, c.prefix_in.ensures)
-          (body-whole (table_of a.sequences.now a.pictures.now) a.head a.unit.now a.scratch.now g.answered g.words),
+          (body-whole (table_in a.sets) a.head a.unit.now a.scratch.now g.answered g.words),
       g.left,
     )

@@ -1,6 +1,7 @@
 use native.Mathlib.Omega.{arith}
-use mathlib.Core.Path.{refl, ◌∙◌}
+use mathlib.Core.Path.{refl, ap, ◌∙◌}
 use Prim.Native.Nat.{◌+◌}
+use Rattle.std.specs.Prelude.{Some}
 use Rattle.walk.proofs.Hits.{code-room}
 use Rattle.walk.proofs.Scans.{sought}
 use Rattle.walk.proofs.Nexts.{none_from, first-there}
@@ -19,4 +20,4 @@ unit_to-requires c =
     (code-room a.recording.now a.from at c.seek_start-at.ensures c.if-n-at.false, sought 0 a.recording.now (at + 3) c.seek-next.result c.seek-next.ensures)
 
 pub returns : goal.returns
-returns c = let a = c.args in c.unit_to.ensures ∙ first-there a.recording.now a.from c.seek_start-at.result c.seek_start-at.ensures c.if-n-at.false
+returns c = let a = c.args in ap Some c.unit_to.ensures ∙ first-there a.recording.now a.from c.seek_start-at.result c.seek_start-at.ensures c.if-n-at.false

@@ -15,15 +15,15 @@ returns-in_default-clause-walked c = rw (walked_at _ _ _ _ (sym (step-found _ _ 
 
 -- what the search found
 pub overflow_add-end : goal.overflow_add-end
-overflow_add-end c = let w = went _ _ _ _ _ (found_in _ _ c.next_seen-seen.ensures c.in-At.is) in omega arith
+overflow_add-end c = let w = went _ _ _ (found_in _ _ c.next_seen-seen.ensures c.in-Some.is) in omega arith
 
 pub slice_bounds-body_in_turn-end : goal.slice_bounds-body_in_turn-end
-slice_bounds-body_in_turn-end c = let w = went _ _ _ _ _ (found_in _ _ c.next_seen-seen.ensures c.in-At.is) in omega arith
+slice_bounds-body_in_turn-end c = let w = went _ _ _ (found_in _ _ c.next_seen-seen.ensures c.in-Some.is) in omega arith
 
 pub returns-clause-walked : goal.returns-clause-walked
 returns-clause-walked c =
     let s = c.args.recording.now in
-    let p = c.in-At.place in
-    let e = found_in _ _ c.next_seen-seen.ensures c.in-At.is in
+    let p = c.in-Some.u.place in
+    let e = found_in _ _ c.next_seen-seen.ensures c.in-Some.is in
     rw (walked_at _ _ _ _ (sym (step-found _ _ c.if-n-gt-LIMIT.false e)))
-    (unit-into _ _ _ _ (seen_turned s p (p + c.in-At.length - p) (clear_in_lem s _ c.next_seen-seen.ensures e) c.body_in_turn-answer.ensures.turned))
+    (unit-into _ _ _ _ (seen_turned s p (p + c.in-Some.u.length - p) (clear_in_lem s _ c.next_seen-seen.ensures e) c.body_in_turn-answer.ensures.turned))

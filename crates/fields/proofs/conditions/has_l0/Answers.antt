@@ -1,4 +1,0 @@
-use Rattle.fields.proofs.conditions.has_l0.Goals as goal
-
-pub returns : goal.returns
-returns c = rw (c.either-2.ensures, c.either.ensures, c.is_type.ensures, c.is_type-2.ensures, c.is_type-3.ensures)

@@ -1,9 +1,0 @@
-use mathlib.Core.Path.{◌∙◌}
-use Rattle.fields.proofs.Cases.{signed-there, signed-absent}
-use Rattle.fields.proofs.read.offset_if.Goals as goal
-
-pub returns-then-there : goal.returns-then-there
-returns-then-there c = c.marked.ensures ∙ signed-there _ _ _ _ _ c.if-there.true c.offset.ensures
-
-pub returns-else-there : goal.returns-else-there
-returns-else-there c = c.absent.ensures ∙ signed-absent _ _ _ _ c.if-there.false
