@@ -43,6 +43,7 @@ fn main() {
         .iter()
         .map(|file| records(&root.join("crates").join(file)))
         .collect();
+    same_flag(&root);
     let fields = fields(&root.join(FIELDS));
     let layout = layout(&root.join(LAYOUT));
     let enough = enough(&root.join(ENOUGH));
@@ -86,8 +87,29 @@ fn archive(root: &Path, name: &str) -> PathBuf {
     root.join("crates").join(EXPORTS).join("out").join(name)
 }
 
-/// The one struct that C needs a name for and Rust has already: `raw` says so by a type's name.
+/// The one struct that C needs a name for and Rust has already: `raw` says so by a type's name, and `same_flag` that both are one.
 const MARKED_FLAG: &str = "pub struct MarkedFlag {";
+const MARKED: &str = "pub struct Marked<T> {";
+
+/// The fields of a struct that a Rattle file declares.
+fn declared(file: &Path, head: &str) -> String {
+    let source = fs::read_to_string(file).unwrap_or_else(|e| panic!("{}: {e}", file.display()));
+    let (_, behind) = source
+        .split_once(head)
+        .unwrap_or_else(|| panic!("{}: it has no `{head}`", file.display()));
+    behind.split("\n}").next().unwrap().to_string()
+}
+
+/// What crosses is `MarkedFlag`, what Rust reads is `Marked<bool>`: field by field the same, in the same order.
+fn same_flag(root: &Path) {
+    let flag = declared(&root.join("crates/exports/src/units.rt"), MARKED_FLAG);
+    let marked = declared(&root.join("crates/syntax/src/marks.rt"), MARKED);
+    assert_eq!(
+        flag,
+        marked.replace(": T,", ": bool,"),
+        "MarkedFlag of exports is not Marked<bool>, by which Rust reads it"
+    );
+}
 
 /// The `#[repr(C)]` structs of a Rattle file, as Rust: they are Rust's own text but for `derive`, and comments become documentation.
 fn records(file: &Path) -> String {

@@ -2,6 +2,7 @@
 use Prim.Native.Nat.{ℕ}
 use mathlib.Core.Path.{◌≡◌, refl, sym, ap, ◌∙◌}
 use mathlib.Core.List.{List}
+use lib.ListN.{replicate}
 use native.Mathlib.Omega.{arith}
 use Rattle.bits.specs.declared.refusals.Refusal.{Refusal}
 use Rattle.bits.specs.declared.read.Cursor.{Cursor}
@@ -47,10 +48,12 @@ unfolding header_end header_left short_answer words_after
 slice_at (got h e) b base c p q = let i : c.at ≡ e = cc in (rw i, rw q)
 slice_at (no r) b base c p q = never (cc)
 
-slice-none : (m : Res SliceHeader) (b : Lent) {w : Lent} (r : Refusal) → Err r ≡ header_end m → w ≡ blank → Right (slice_answer m) (ShortAnswer.Refused r) b w
-unfolding header_end short_answer words_after only
+-- a refusal has left zeros in the header's words, and the words of a prefix unit's list are cleared
+slice-none : (m : Res SliceHeader) (b : Lent) {w : HeaderWords} (r : Refusal) → Err r ≡ header_end m → w ≡ header_left m b.header
+    → Right (slice_answer m) (ShortAnswer.Refused r) b (record { header = w; base = replicate 198 0 })
+unfolding header_end header_left short_answer words_after only
 slice-none (got h e) b r p q = never (cc)
-slice-none (no x) b r p q = let i : r ≡ x = cc in (rw i, q)
+slice-none (no x) b r p q = let i : r ≡ x = cc in (rw i, rw q)
 
 module _ (t : Table) (kind : UnitKind) (s : Bits) where
   pub slice-right : (b : HeaderWords) (base : List ℕ) {a : Result Cursor Refusal} {w : HeaderWords} → a ≡ header_end (read_header t kind s) → w ≡ header_left (read_header t kind s) b → (c : Cursor) → a ≡ Ok c
@@ -58,10 +61,10 @@ module _ (t : Table) (kind : UnitKind) (s : Bits) where
   unfolding slice_bits
   slice-right b base p q c e = slice_at (read_header t kind s) b base c (sym e ∙ p) q
 
-  pub slice-cleared : (b : Lent) {a : Result Cursor Refusal} {w : Lent} → a ≡ header_end (read_header t kind s) → (r : Refusal) → a ≡ Err r → w ≡ blank
-      → Right (slice_bits t kind s) (ShortAnswer.Refused r) b w
+  pub slice-cleared : (b : Lent) {a : Result Cursor Refusal} {w : HeaderWords} → a ≡ header_end (read_header t kind s) → w ≡ header_left (read_header t kind s) b.header → (r : Refusal) → a ≡ Err r
+      → Right (slice_bits t kind s) (ShortAnswer.Refused r) b (record { header = w; base = replicate 198 0 })
   unfolding slice_bits
-  slice-cleared b p r e q = slice-none (read_header t kind s) b r (sym e ∙ p) q
+  slice-cleared b p q r e = slice-none (read_header t kind s) b r (sym e ∙ p) q
 
 -- ---- a prefix unit
 

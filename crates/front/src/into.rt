@@ -11,6 +11,7 @@ use crate::body::prefix_body;
 use crate::sets::{picture_body, sequence_body};
 use bits::refusals::{NOT_ITS_HEAD, refuse};
 use header::escaped::read_escaped_into;
+use lists::list_words::clear_list;
 use syntax::context::{PrefixKind, UnitKind};
 use table::table::Sets;
 use unit::begin::{Begun, begun_by};
@@ -32,7 +33,8 @@ fn slice_into(
     match read_escaped_into(unit, from, kind, sets, &mut w.header) {
         Ok(c) => ShortAnswer::Slice(c.at),
         Err(r) => {
-            w.clear();
+            // `read_escaped_into` has left zeros in the header's words, and to write them again would cost time: only the words of a prefix unit's list are still to be cleared.
+            clear_list(w.base);
             ShortAnswer::Refused(r)
         }
     }

@@ -1,6 +1,6 @@
 -- The cases of one step of a listing, for either framing: `next` says where the walk steps to.
 use mathlib.Core.Path.{◌≡◌, refl, sym, ap, ap₂, subst, ◌∙◌}
-use mathlib.Core.List.{List}
+use mathlib.Core.List.{List, []}
 use mathlib.Core.Bool.{Bool, true, false, true≢false}
 use Prim.Native.Nat.{ℕ, suc, ◌+◌, ◌-◌, ◌≤◌, ◌<◌}
 use native.Mathlib.Omega.{arith}
@@ -9,10 +9,11 @@ use lib.Dec.{leb}
 use lib.ListN.{length, length-take, length-drop}
 use Rattle.bits.specs.declared.refusals.Refusal.{Refusal}
 use Rattle.table.specs.declared.table.Table.{Table}
+use Rattle.table.specs.Tables.{empty_table}
 use Rattle.unit.specs.declared.answer.UnitAnswer.{UnitAnswer}
 use Rattle.unit.specs.declared.answer.UnitRead.{UnitRead}
 use Rattle.unit.specs.Unit.{unit_read}
-use Rattle.unit.specs.Into.{short, short_answer, words_after}
+use Rattle.unit.specs.Into.{short, short_answer, words_after, Lent}
 use Rattle.walk.specs.declared.walk.Step.{Step}
 use Rattle.walk.specs.Walked.{WalkOut, next_step, walk_by}
 use Rattle.walk.proofs.Nexts.{none_from}
@@ -26,7 +27,7 @@ use Rattle.list_steps.specs.declared.step.State.{State}
 use Rattle.list_steps.specs.declared.step.Listed.{Listed}
 use Rattle.list_steps.specs.declared.step.Next.{Next}
 use Rattle.list_steps.specs.Listing.{most, is_refused, one_more, counted, bytes_at, Turn, last, line_after, turn_by, turn, framed_turn, Stepped}
-use Rattle.list_steps.specs.Private.{is_refused_short, next_by, Ends, Broken, blank, Met}
+use Rattle.list_steps.specs.Private.{is_refused_short, next_by, Ends, Broken, Met, Inside, met_by, met_turn}
 
 pub one_more_lem : (n : ℕ) → n < most → one_more n ≡ suc n
 one_more_lem n h = rw (lt-ltb n most h)
@@ -91,7 +92,7 @@ module _ (next : List ℕ → ℕ → Step) (t : Table) (s : List ℕ) (st : Sta
   pub came : {k : Step} → next s st.from ≡ k → out.walked.step ≡ k
   came e = step_of unit_read t s scratch (next s st.from) ∙ e
 
-  pub stepped-to : {r : Next} {z : List ℕ} {v : Table} {k : Step} → Met out r z v → r.step ≡ k → next s st.from ≡ k
+  pub stepped-to : {b : Lent} {r : Next} {z : List ℕ} {v : Table} {k : Step} → Met out b r z v → r.step ≡ k → next s st.from ≡ k
   stepped-to e g = sym (step_of unit_read t s scratch (next s st.from)) ∙ sym e.step ∙ g
 
   pub turn-long : most < length s → turn_by next t s st scratch ≡ last too_long_line st scratch t
@@ -105,32 +106,47 @@ module _ (next : List ℕ → ℕ → Step) (t : Table) (s : List ℕ) (st : Sta
         (ap₂ (λ (z : List ℕ) (v : Table). line_after s st out.walked.read z v out.walked.step) (sym f) (sym d) ∙ ap (λ (k : Step). line_after s st out.walked.read z v k) g)
 
     module _ (way : Ahead s (next s)) where
-      pub inside : {r : Next} {z : List ℕ} {v : Table} {p n m : ℕ} → Met out r z v → r.step ≡ Step.Unit p n m → p + n ≤ length s
+      pub inside : {b : Lent} {r : Next} {z : List ℕ} {v : Table} {p n m : ℕ} → Met out b r z v → r.step ≡ Step.Unit p n m → p + n ≤ length s
       inside {p = p} {n = n} {m = m} e g = (way.on st.from p n m (stepped-to e g)).2
 
-      -- what is lent is s[p .. p + n]
-      pub unit-stepped : {r : Next} {z : List ℕ} {v : Table} {p n m : ℕ} → Met out r z v → r.step ≡ Step.Unit p n m
-          → {line line' : List ℕ} {length' : ℕ} {st' : State}
-          → Written (lent_line v.pictures p n (bytes_at s p (p + n - p)) r.answer r.numbers r.signed) line length' line'
-          → st' ≡ counted st m (is_refused_short r.answer)
-          → Stepped (turn_by next t s st scratch) line (record { state = st'; length = length'; more = true }) z line' v
-      unit-stepped {r} {z} {v} {p} {n} {m} e g {line} {line'} {length'} {st'} w c =
+      pub met-inside : {b : Lent} {r : Next} {z : List ℕ} {v : Table} → Met out b r z v → Inside r.step (length s)
+      met-inside {r = r} e = go r.step refl
+        where
+          go : (k : Step) → r.step ≡ k → Inside k (length s)
+          go (Step.Unit p n m) g = inside e g
+          go Step.End g = tt
+          go (Step.Refused x) g = tt
+
+      pub unit-stepped : {b : Lent} {r : Next} {z : List ℕ} {v : Table} {p n m : ℕ} → Met out b r z v → r.step ≡ Step.Unit p n m
+          → {line line' : List ℕ} {o : Listed}
+          → Stepped (met_by v.pictures s st r (Step.Unit p n m)) line o [] line' empty_table
+          → Stepped (turn_by next t s st scratch) line o z line' v
+      unit-stepped {b} {r} {z} {v} {p} {n} {m} e g {line} {line'} {o} w =
           let u = out.walked.read in
-          let k : p + n - p ≡ n = omega arith in
           let i : p + n ≤ length s = inside e g in
           let l : n ≡ length (bytes_at s p n) = simp (length-take, length-drop) (omega arith) in
-          let d : lent_line v.pictures p n (bytes_at s p (p + n - p)) r.answer r.numbers r.signed ≡ unit_line v.pictures p (bytes_at s p n) u =
-          rw (k, e.answered, e.numbers, e.signed)
-          (ap (λ (j : ℕ). lent_line v.pictures p j (bytes_at s p n) (short_answer u) (words_after u blank).header.numbers (words_after u blank).header.signed) l
-          ∙ lent-line v.pictures (bytes_at s p n) u blank p) in
+          let d : lent_line v.pictures p n (bytes_at s p n) r.answer r.numbers r.signed ≡ unit_line v.pictures p (bytes_at s p n) u =
+          rw (e.answered, e.numbers, e.signed)
+          (ap (λ (j : ℕ). lent_line v.pictures p j (bytes_at s p n) (short_answer u) (words_after u b).header.numbers (words_after u b).header.signed) l
+          ∙ lent-line v.pictures (bytes_at s p n) u b p) in
           rw (turn_by_lem (Step.Unit p n m) e.left e.table (sym e.step ∙ g))
           (record {
-            state = c ∙ ap (counted st m) (ap is_refused_short e.answered ∙ refused-short u);
-            more = refl;
-            text = subst (λ (x : List ℕ). Written x line length' line') d w;
+            state = w.state ∙ ap (counted st m) (ap is_refused_short e.answered ∙ refused-short u);
+            more = w.more;
+            text = subst (λ (x : List ℕ). Written x line o.length line') d w.text;
             left = refl;
             table = refl;
           })
+
+      -- the line of what a step came to is the listing's
+      pub met-stepped : {b : Lent} {r : Next} {z : List ℕ} {v : Table} → Met out b r z v → {line line' : List ℕ} {o : Listed}
+          → Stepped (met_turn v.pictures s st r) line o [] line' empty_table → Stepped (turn_by next t s st scratch) line o z line' v
+      met-stepped {b} {r} {z} {v} e {line} {line'} {o} = go r.step refl
+        where
+          go : (k : Step) → r.step ≡ k → Stepped (met_by v.pictures s st r k) line o [] line' empty_table → Stepped (turn_by next t s st scratch) line o z line' v
+          go (Step.Unit p n m) g w = unit-stepped e g w
+          go Step.End g w = rw (turn_by_lem Step.End e.left e.table (sym e.step ∙ g)) (ends w _ _)
+          go (Step.Refused x) g w = rw (turn_by_lem (Step.Refused x) e.left e.table (sym e.step ∙ g)) (breaks (length s) st w _ _)
 
       -- a step that another follows goes on ahead, within the recording
       on-from : (turn_by next t s st scratch).more ≡ true → (st.from < (turn_by next t s st scratch).state.from) × ((turn_by next t s st scratch).state.from ≤ length s)

@@ -7,6 +7,7 @@ use Rattle.unit.specs.declared.answer.UnitRead.{UnitRead}
 use Rattle.walk.specs.declared.walk.Step.{Step}
 use Rattle.walk.specs.Units.{Report}
 use Rattle.unit.specs.Unit.{unit_read}
+use Rattle.unit.specs.Into.{Lent, words_after}
 use Rattle.walk.specs.Walked.{WalkOut, table_after, next_step, walk_by}
 use Rattle.walk.specs.Reports.{sift, reports}
 use Rattle.framed.specs.Framed.{framed_units, end_of, next_framed}
@@ -107,6 +108,10 @@ turn t s st scratch = turn_by next_step t s st scratch
 
 unfoldable pub framed_turn : Turning
 framed_turn t s st scratch = turn_by next_framed t s st scratch
+
+-- what a step leaves in words that are lent, which held b: what reading its unit leaves; where the recording is too long, b
+unfoldable pub words_left : Table → List ℕ → State → List ℕ → Lent → Lent
+words_left t s st scratch b = pick (leb (length s) most) (words_after (walk_by unit_read next_step t s st.from scratch).walked.read b) b
 
 -- what a step answers and leaves
 pub record Stepped (o : Turn) (line : List ℕ) (r : Listed) (scratch line' : List ℕ) (t : Table) : Type 0 where

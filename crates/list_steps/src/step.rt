@@ -1,13 +1,14 @@
 // One step of a listing: the walk's next unit as a line; or the last line, with the totals.
-ghost use Rattle.std.specs.Prelude.{◌≡◌};
+ghost use Rattle.std.specs.Prelude.{◌≡◌, [], length};
 ghost use Rattle.header.specs.Lead.{table_of};
+ghost use Rattle.table.specs.Tables.{empty_table};
 ghost use Rattle.unit.specs.Unit.{unit_read};
-ghost use Rattle.unit.specs.Into.{lent_in, SameLent};
+ghost use Rattle.unit.specs.Into.{lent_in, SameLent, words_after};
 ghost use Rattle.walk.specs.Walked.{walk_by};
 ghost use Rattle.walk.specs.WalkedInto.{WalkedInto};
 ghost use Rattle.lines.specs.Lines.{end_line, too_long_line};
-ghost use Rattle.list_steps.specs.Listing.{one_more, start, counted, turn_by, turn, framed_turn, Stepped};
-ghost use Rattle.list_steps.specs.Private.{is_refused_short, next_by, Ends, Broken, Met};
+ghost use Rattle.list_steps.specs.Listing.{one_more, start, counted, turn_by, turn, framed_turn, words_left, Stepped};
+ghost use Rattle.list_steps.specs.Private.{is_refused_short, next_by, Ends, Broken, blank, Met, Inside, met_turn};
 
 use bits::refusals::Refusal;
 use framed::by_length::walk_framed_into;
@@ -153,6 +154,32 @@ struct Next {
     signed: [i32; 7],
 }
 
+// Into words that are lent.
+fn walk_lent(
+    by_length: bool,
+    sequences: &mut [u32; 224],
+    pictures: &mut [u32; 2304],
+    recording: &[u8],
+    from: usize,
+    scratch: &mut [u8],
+    w: &mut AllWords<'_>,
+) -> Next
+    ensures met { Met (walk_by unit_read (next_by by_length) (table_of sequences.old pictures.old) recording.now from scratch.old) (lent_in w.old) result scratch.new (table_of sequences.new pictures.new) }
+    ensures words { lent_in w.new ≡ words_after (walk_by unit_read (next_by by_length) (table_of sequences.old pictures.old) recording.now from scratch.old).walked.read (lent_in w.old) }
+    ensures same { SameLent w.old w.new }
+{
+    let walked = walk_by(by_length, sequences, pictures, recording, from, scratch, w);
+    let step = walked.step;
+    let answer = walked.answer;
+    Next {
+        step,
+        answer,
+        numbers: *w.header.numbers,
+        signed: *w.header.signed,
+    }
+}
+
+// Into words of its own.
 fn walk_on(
     by_length: bool,
     sequences: &mut [u32; 224],
@@ -161,7 +188,7 @@ fn walk_on(
     from: usize,
     scratch: &mut [u8],
 ) -> Next
-    ensures { Met (walk_by unit_read (next_by by_length) (table_of sequences.old pictures.old) recording.now from scratch.old) result scratch.new (table_of sequences.new pictures.new) }
+    ensures { Met (walk_by unit_read (next_by by_length) (table_of sequences.old pictures.old) recording.now from scratch.old) blank result scratch.new (table_of sequences.new pictures.new) }
 {
     let mut numbers = [0u32; 57];
     let mut signed = [0i32; 7];
@@ -183,16 +210,39 @@ fn walk_on(
         },
         base: &mut base,
     };
-    let w = walk_by(
+    walk_lent(
         by_length, sequences, pictures, recording, from, scratch, &mut words,
-    );
-    let step = w.step;
-    let answer = w.answer;
-    Next {
-        step,
-        answer,
-        numbers: *words.header.numbers,
-        signed: *words.header.signed,
+    )
+}
+
+// The line of what a step came to.
+fn line_met(
+    pictures: &[u32; 2304],
+    recording: &[u8],
+    state: State,
+    met: Next,
+    line: &mut [u8; 128],
+) -> Listed
+    requires { Inside met.step (length recording.now) }
+    ensures { Stepped (met_turn pictures.now recording.now state met) line.old result [] line.new empty_table }
+{
+    let step = met.step;
+    match step {
+        Step::Unit(place, n, next) => {
+            let end = place + n;
+            let answer = met.answer;
+            let numbers = met.numbers;
+            let signed = met.signed;
+            let unit = &recording[place..end];
+            let length = unit_line(line, pictures, place, n, unit, answer, &numbers, &signed);
+            Listed {
+                state: counted(state, next, is_refused(answer)),
+                length,
+                more: true,
+            }
+        }
+        Step::End => finish(state, line),
+        Step::Refused(_) => broken(state, recording.len(), line),
     }
 }
 
@@ -213,28 +263,34 @@ fn line_by(
         return too_long(state, line);
     }
     let from = state.from;
-    let w = walk_on(by_length, sequences, pictures, recording, from, scratch);
-    let step = w.step;
-    match step {
-        Step::Unit(place, n, next) => {
-            let end = place + n;
-            let answer = w.answer;
-            let numbers = w.numbers;
-            let signed = w.signed;
-            let unit = &recording[place..end];
-            let length = unit_line(line, pictures, place, n, unit, answer, &numbers, &signed);
-            Listed {
-                state: counted(state, next, is_refused(answer)),
-                length,
-                more: true,
-            }
-        }
-        Step::End => finish(state, line),
-        Step::Refused(_) => broken(state, size, line),
-    }
+    let met = walk_on(by_length, sequences, pictures, recording, from, scratch);
+    line_met(pictures, recording, state, met, line)
 }
 
-// Of a recording with start codes.
+// Of a recording with start codes, by words that are lent. What they hold plays no part in the line: who lists a whole recording lends the same at each step, since
+// to clear them takes as long as most steps.
+pub fn list_step_into(
+    sequences: &mut [u32; 224],
+    pictures: &mut [u32; 2304],
+    recording: &[u8],
+    state: State,
+    scratch: &mut [u8],
+    line: &mut [u8; 128],
+    w: &mut AllWords<'_>,
+) -> Listed
+    ensures stepped { Stepped (turn (table_of sequences.old pictures.old) recording.now state scratch.old) line.old result scratch.new line.new (table_of sequences.new pictures.new) }
+    ensures words { lent_in w.new ≡ words_left (table_of sequences.old pictures.old) recording.now state scratch.old (lent_in w.old) }
+    ensures same { SameLent w.old w.new }
+{
+    if recording.len() > MOST {
+        return too_long(state, line);
+    }
+    let from = state.from;
+    let met = walk_lent(false, sequences, pictures, recording, from, scratch, w);
+    line_met(pictures, recording, state, met, line)
+}
+
+// The same by words of its own.
 pub fn list_step(
     sequences: &mut [u32; 224],
     pictures: &mut [u32; 2304],

@@ -7,6 +7,7 @@ use Rattle.syntax.specs.declared.record.SliceHeader.{SliceHeader}
 use Rattle.syntax.specs.declared.record.Prefix.{Prefix}
 use Rattle.lists.specs.declared.list_words.PrefixShort.{PrefixShort}
 use Rattle.header.specs.Short.{HeaderWords}
+use Rattle.record.specs.declared.record.HeldWords.{HeldWords}
 use Rattle.record.specs.Fields.{number_in, set_in, marked_number, marked_flag, frame_from, order_count_from, active_counts_from, quantiser_from, filter_from}
 use Rattle.record.specs.Entries.{operations_from, weights_from}
 
@@ -35,6 +36,10 @@ marking_from n words =
       adaptive_ref_pic_marking_mode_flag = marked_flag n 43;
       operations = operations_from (number_in n 45) words;
     }
+
+-- what the arrays of a struct of references hold
+abbrev pub words_held : HeldWords → HeaderWords
+words_held w = record { numbers = w.numbers.now; signed = w.signed.now; l0 = w.l0.now; l1 = w.l1.now; marking = w.marking.now; w0 = w.w0.now; w1 = w.w1.now }
 
 unfoldable pub header_from : HeaderWords → SliceHeader
 header_from w =

@@ -2,18 +2,28 @@
 #![tactic(auto, unfolding(crate::specs::Record::header_from, crate::specs::Record::prefix_from))]
 
 ghost use Rattle.std.specs.Prelude.{◌≡◌};
-ghost use Rattle.record.specs.Record.{modifications_from, weight_table_from, marking_from, header_from, prefix_from};
-ghost use Rattle.header.specs.Short.{words_in};
+ghost use Rattle.record.specs.Record.{modifications_from, weight_table_from, marking_from, header_from, words_held, prefix_from};
 
 use crate::entries::{operations_of, weights_of};
 use crate::parts_of::{
     active_counts_of, filter_of, frame_of, marked_flag, marked_number, order_count_of, quantiser_of,
 };
-use header::slice::Words;
 use lists::list_words::PrefixShort;
 use syntax::record::{
     DecRefPicMarking, Modification, Modifications, PredWeightTable, Prefix, SliceHeader,
 };
+
+// The words of a header, lent to be read: `header::slice::Words` without the leave to write.
+#[derive(Clone, Copy)]
+pub struct HeldWords<'a> {
+    pub numbers: &'a [u32; 57],
+    pub signed: &'a [i32; 7],
+    pub l0: &'a [u32; 198],
+    pub l1: &'a [u32; 198],
+    pub marking: &'a [u32; 198],
+    pub w0: &'a [i32; 256],
+    pub w1: &'a [i32; 256],
+}
 
 fn modifications_of(numbers: &[u32; 57], l0: &[u32; 198], l1: &[u32; 198]) -> Modifications
     ensures { result ≡ modifications_from numbers.now l0.now l1.now }
@@ -53,29 +63,23 @@ fn marking_of(numbers: &[u32; 57], words: &[u32; 198]) -> DecRefPicMarking
     }
 }
 
-pub fn header_of(w: &Words<'_>) -> SliceHeader
-    ensures { result ≡ header_from (words_in w.now) }
+pub fn header_of(w: HeldWords<'_>) -> SliceHeader
+    ensures { result ≡ header_from (words_held w.entry) }
 {
-    let numbers: &[u32; 57] = w.numbers;
-    let signed: &[i32; 7] = w.signed;
-    let l0: &[u32; 198] = w.l0;
-    let l1: &[u32; 198] = w.l1;
-    let marking: &[u32; 198] = w.marking;
-    let w0: &[i32; 256] = w.w0;
-    let w1: &[i32; 256] = w.w1;
+    let numbers = w.numbers;
     SliceHeader {
         first_mb_in_slice: numbers[0],
         slice_type: numbers[1],
         pic_parameter_set_id: numbers[2],
         seq_parameter_set_id: numbers[3],
         frame: frame_of(numbers),
-        order_count: order_count_of(numbers, signed),
+        order_count: order_count_of(numbers, w.signed),
         active_counts: active_counts_of(numbers),
-        modifications: modifications_of(numbers, l0, l1),
-        pred_weight_table: weight_table_of(numbers, w0, w1),
-        dec_ref_pic_marking: marking_of(numbers, marking),
-        quantiser: quantiser_of(numbers, signed),
-        filter: filter_of(numbers, signed),
+        modifications: modifications_of(numbers, w.l0, w.l1),
+        pred_weight_table: weight_table_of(numbers, w.w0, w.w1),
+        dec_ref_pic_marking: marking_of(numbers, w.marking),
+        quantiser: quantiser_of(numbers, w.signed),
+        filter: filter_of(numbers, w.signed),
     }
 }
 

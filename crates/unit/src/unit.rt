@@ -1,14 +1,31 @@
 // A unit's body by value: read into words, from which its records are taken.
 ghost use Rattle.std.specs.Prelude.{◌≡◌};
 ghost use Rattle.header.specs.Lead.{table_in};
+ghost use Rattle.header.specs.Short.{words_in};
+ghost use Rattle.record.specs.Record.{words_held};
 ghost use Rattle.unit.specs.Head.{body_read};
 
 use crate::answer::{UnitRead, long_answer, prefix_in};
 use crate::head::UnitHead;
 use crate::into::{AllWords, read_body_into};
 use header::slice::Words;
-use record::record::{header_of, prefix_of};
+use record::record::{HeldWords, header_of, prefix_of};
 use table::table::Sets;
+
+// A header's words, lent on to be read.
+fn held<'a>(w: &'a Words<'_>) -> HeldWords<'a>
+    ensures { words_held result ≡ words_in w.now }
+{
+    HeldWords {
+        numbers: w.numbers,
+        signed: w.signed,
+        l0: w.l0,
+        l1: w.l1,
+        marking: w.marking,
+        w0: w.w0,
+        w1: w.w1,
+    }
+}
 
 // The body of a unit, for whoever has its head, by the sets in a table's two arrays. Scratch is left as `read_body_into` leaves it. The words start as zeros, and are zeros again where the answer
 // speaks of no header and no list, so that what they hold is right for every answer.
@@ -39,7 +56,7 @@ pub fn read_body_in(head: UnitHead, sets: Sets<'_>, unit: &[u8], scratch: &mut [
     let a = read_body_into(head, sets, unit, scratch, &mut w);
     UnitRead {
         answer: long_answer(a),
-        header: header_of(&w.header),
+        header: header_of(held(&w.header)),
         prefix: prefix_of(prefix_in(a), w.base),
     }
 }

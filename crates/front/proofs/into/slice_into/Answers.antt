@@ -16,5 +16,6 @@ returns-in-Ok c =
 pub returns-in-Err : goal.returns-in-Err
 returns-in-Err c =
     let a = c.args in
-    let r = slice-cleared (table_in a.sets) a.kind (body_bits a.unit.now a.from) (lent_in a.w.now) c.read_escaped_into.ensures.value _ c.in-Err.is c.clear.ensures.words in
-    record { value = r.0; words = r.1; same = search rules }
+    let h = c.read_escaped_into.ensures in
+    let r = slice-cleared (table_in a.sets) a.kind (body_bits a.unit.now a.from) (lent_in a.w.now) h.value h.words _ c.in-Err.is in
+    record { value = r.0; words = rw c.clear_list.ensures r.1; same = search rules }
